@@ -4,7 +4,7 @@ use Rattle.std.proofs.lemmas.Bool.Decides.{nat_tests}
 use Rattle.std.specs.Prelude.{nat_lt, option_map, option_and_then, if◌then◌else◌}
 use Rattle.hunt.specs.Counts.{Has}
 use Rattle.hunt.specs.declared.found.Found.{Found}
-use Rattle.hunt.specs.declared.search.Asked.TheVariants.{Ends, Crashes}
+use Rattle.hunt.specs.declared.search.Asked.TheVariants.{Last, Ends, Crashes}
 use Rattle.hunt.specs.declared.search.Search.{Search}
 use Rattle.hunt.specs.declared.search.Target.{Target}
 use Rattle.hunt.specs.Founds.{found_at, found_of, lesser, IsOfLeast}
@@ -50,9 +50,14 @@ module _ (target : Target) where
       ap (λ (g : Found). Some g) (is ∙ ap (found_of target) (omega (arith, a, b)))
 
 -- the number of what is found of a number
-pub found_number : (search : Search) (o : Option ℕ) → option_map (λ (f : Found). f.number) (option_map (found_at Ends search) o) ≡ o
+pub found_number : (search : Search) (o : Option ℕ) → option_map (λ (f : Found). f.number) (option_map (found_at Last search) o) ≡ o
 found_number search None = refl
 found_number search (Some number) = refl
+
+-- the same where ends are asked
+pub found_end_number : (recovered : Bool) (search : Search) (o : Option ℕ) → option_map (λ (f : Found). f.number) (option_map (found_at (Ends recovered) search) o) ≡ o
+found_end_number recovered search None = refl
+found_end_number recovered search (Some number) = refl
 
 -- the loss of what is found of a number
 pub found_loss : (search : Search) (o : Option ℕ) → option_and_then (λ (f : Found). f.loss) (option_map (found_at Crashes search) o) ≡ option_and_then (crash_of search) o

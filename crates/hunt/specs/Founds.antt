@@ -3,7 +3,7 @@ use Rattle.std.specs.Prelude.{◌≡◌, ℕ, ◌+◌, ◌≤◌, nat_lt, Option
 use Rattle.hunt.specs.declared.found.Found.{Found}
 use Rattle.hunt.specs.declared.loss.Loss.{Loss}
 use Rattle.hunt.specs.declared.search.Asked.{Asked}
-use Rattle.hunt.specs.declared.search.Asked.TheVariants.{Ends, Crashes}
+use Rattle.hunt.specs.declared.search.Asked.TheVariants.{Last, Ends, Crashes}
 use Rattle.hunt.specs.declared.search.Search.{Search}
 use Rattle.hunt.specs.declared.search.Target.{Target}
 use Rattle.hunt.specs.Counts.{Has}
@@ -11,7 +11,8 @@ use Rattle.hunt.specs.Searches.{crash_of}
 
 -- the loss of the schedule of a number, where crashes are asked
 abbrev pub loss_in : Asked → Search → ℕ → Option Loss
-loss_in Ends search number = None
+loss_in Last search number = None
+loss_in (Ends recovered) search number = None
 loss_in Crashes search number = crash_of search number
 
 -- what is found of the schedule of a number that breaks the condition

@@ -4,21 +4,23 @@ use Rattle.machine.specs.State.{State}
 use Rattle.conditions.specs.Formulas.{Formula}
 use Rattle.schedule.specs.declared.plan.Plan.{Plan}
 use Rattle.hunt.specs.declared.search.Asked.{Asked}
-use Rattle.hunt.specs.declared.search.Asked.TheVariants.{Ends, Crashes}
+use Rattle.hunt.specs.declared.search.Asked.TheVariants.{Last, Ends, Crashes}
 use Rattle.hunt.specs.declared.search.Target.{Target}
 use Rattle.hunt.specs.declared.verdict.Verdict.{Verdict}
 use Rattle.hunt.specs.declared.verdict.Verdict.TheVariants.{Holds, Fails, Skipped}
 use Rattle.hunt.specs.Least.{fails, least, least_from}
 use Rattle.hunt.specs.Crashes.{loses}
+use Rattle.hunt.specs.Ends.{breaks_end}
 use Rattle.hunt.specs.Founds.{found_at, found_of}
 use Rattle.hunt.specs.declared.found.Found.{Found}
 use Rattle.hunt.specs.declared.search.Search.{Search}
 use Rattle.hunt.specs.declared.seats.Board.{Board}
 use Rattle.hunt.specs.Seats.{limit_of}
 
--- whether a schedule breaks the condition: in its end, or by what a crash may leave in some of its states
+-- whether a schedule breaks the condition: in its last state, in an end to which it comes, or by what a crash may leave in some of its states
 abbrev pub breaks_in : Asked → Plan → Formula → State → ℕ → Bool
-breaks_in Ends plan condition start number = fails plan condition start number
+breaks_in Last plan condition start number = fails plan condition start number
+breaks_in (Ends recovered) plan condition start number = breaks_end recovered plan condition start number
 breaks_in Crashes plan condition start number = loses plan condition start number
 
 -- whether the schedule of a number is one that is looked for

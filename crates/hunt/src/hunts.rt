@@ -6,7 +6,7 @@ ghost use Rattle.workers.specs.Limits.{max_numbers, MayShare};
 ghost use Rattle.hunt.specs.Seats.{limit_of, seats_of};
 ghost use Rattle.hunt.specs.Errands.{WorksFor};
 ghost use Rattle.hunt.specs.Known.{least_found, told_by, IsTargetOf};
-ghost use Rattle.hunt.specs.Searches.{crash_of, least_crash, least_end, IsLeastIfSome, IsNoneIfSafe};
+ghost use Rattle.hunt.specs.Searches.{crash_of, least_broken_end, least_crash, least_end, IsLeastIfBroken, IsLeastIfSome, IsNoneIfKept, IsNoneIfSafe};
 ghost use Rattle.hunt.specs.Returns.{IsReady, Worked};
 
 use crate::errand::{Errand, Returned, Worker};
@@ -215,10 +215,56 @@ pub fn hunt<R: Threads, G: Gate + Send + Sync + Drop + 'static>(
     requires { MayShare workers }
     ensures { IfOk result (λ found. found ≡ least_end search.now) }
 {
-    match least_found(rt, alloc, search, Asked::Ends, workers, gate)? {
+    match least_found(rt, alloc, search, Asked::Last, workers, gate)? {
         Some(found) => Ok(Some(found.number)),
         None => Ok(None),
     }
+}
+
+/// The smallest number of the range whose schedule comes to an end, after a crash or before the first one, where the condition does
+/// not hold.
+fn first_broken_end<R: Threads, G: Gate + Send + Sync + Drop + 'static>(
+    rt: &R,
+    alloc: Global,
+    search: &Search,
+    recovered: bool,
+    workers: u64,
+    gate: G,
+) -> Result<Option<u64>, HuntFault>
+    requires { MayShare workers }
+    ensures { IfOk result (λ found. found ≡ least_broken_end recovered search.now) }
+{
+    match least_found(rt, alloc, search, Asked::Ends(recovered), workers, gate)? {
+        Some(found) => Ok(Some(found.number)),
+        None => Ok(None),
+    }
+}
+
+/// The smallest number of the range whose schedule comes to an end where the condition does not hold, None where there is none.
+/// An end is what `explore` calls so: each processor has nothing left to do, and nothing is pending; all run their recovery programs,
+/// or where these are not asked about, their main programs. A schedule comes to one where its last state is one. How many do,
+/// [`count_ends`](crate::count_ends) says: None speaks of these alone.
+///
+/// It is the same for any number of workers, and what they do is reported to the gate, as by [`hunt`]. Answers over adjoining
+/// ranges are put together as `laws::hunts_join` says.
+///
+/// # Errors
+///
+/// Those of [`hunt`].
+pub fn hunt_ends<R: Threads, G: Gate + Send + Sync + Drop + 'static>(
+    rt: &R,
+    alloc: Global,
+    search: &Search,
+    recovered: bool,
+    workers: u64,
+    gate: G,
+) -> Result<Option<u64>, HuntFault>
+    requires { MayShare workers }
+    ensures least { IfOk result (λ found. found ≡ least_broken_end recovered search.now) }
+    ensures kept { IfOk result (IsNoneIfKept recovered search.now) }
+    ensures broken { IfOk result (IsLeastIfBroken recovered search.now) }
+{
+    first_broken_end(rt, alloc, search, recovered, workers, gate)
 }
 
 /// The first schedule of the range that breaks the condition by what a crash may leave, its least turn, and what breaks it

@@ -6,10 +6,12 @@ ghost use Rattle.isa.specs.Objects.{IsObject, Object};
 ghost use Rattle.machine.specs.State.{State};
 ghost use Rattle.machine.specs.Steps.{run_of};
 ghost use Rattle.schedule.specs.declared.plan.Plan.{Plan};
-ghost use Rattle.schedule.specs.Schedules.{schedule_of};
+ghost use Rattle.schedule.specs.Schedules.{end_of, schedule_of};
 ghost use Rattle.conditions.specs.Formulas.{Formula};
 ghost use Rattle.images.specs.Truth.{holds_in};
+ghost use Rattle.explore.specs.Ends.{IsEndOf, IsTrueAtEnds};
 ghost use Rattle.hunt.specs.Crashes.{least_loss, loses, losses_among};
+ghost use Rattle.hunt.specs.Ends.{breaks_end, comes_to_end, ends_among, is_end, both_ends, IsEndAs};
 ghost use Rattle.hunt.specs.Least.{FindsFirst, FindsNone, FindsOfBoth, IsFalseBelow, IsLeast, fails, least, least_from};
 ghost use Rattle.hunt.specs.Losses.{AreSafe, HasSoundStates, IsLeastLoss, IsSound, TellsBreach, TellsSafe};
 ghost use Rattle.hunt.specs.LossSums.{both};
@@ -73,6 +75,25 @@ pub fn losses_join()
         → least_loss plan condition start first (a + b) ≡ option_or (least_loss plan condition start first a) (least_loss plan condition start (first + a) b) }
     ensures count { (plan : Plan) (condition : Formula) (start : State) (first a b : ℕ)
         → losses_among plan condition start first (a + b) ≡ both (losses_among plan condition start first a) (losses_among plan condition start (first + a) b) }
+{}
+
+/// The ends to which schedules come are those of `explore`: nothing is left to do and nothing is pending, and some run, from where the
+/// schedules begin, reaches them. So where a condition is true at each end that a run reaches, no schedule is found that breaks it at
+/// one.
+pub fn ends_of_schedules_are_ends_of_runs()
+    ensures ends { (recovered : Bool) (s : State) → (is_end recovered s ≡ true) ↔ IsEndAs recovered s }
+    ensures reached { (recovered : Bool) (plan : Plan) (start : State) (number : ℕ) → comes_to_end recovered plan start number ≡ true
+        → IsEndOf true recovered start (end_of plan number start) }
+    ensures kept { (recovered : Bool) (plan : Plan) (condition : Formula) (start : State) → IsTrueAtEnds true recovered condition start
+        → (first n : ℕ) → least_from (breaks_end recovered plan condition start) first n ≡ None }
+{}
+
+/// The counts of ends of two ranges, of which the second begins where the first ends: the numbers add up, and the first that breaks
+/// the condition is that of the first range, or where there is none, of the second.
+pub fn ends_join()
+    ensures { (recovered : Bool) (plan : Plan) (condition : Formula) (start : State) (first a b : ℕ)
+        → ends_among recovered plan condition start first (a + b)
+        ≡ both_ends (ends_among recovered plan condition start first a) (ends_among recovered plan condition start (first + a) b) }
 {}
 
 /// Where a number is found, the steps of its schedule are a run that is accepted whole, and the condition

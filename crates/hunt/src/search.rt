@@ -42,8 +42,10 @@ impl Search {
 /// Of which states of a schedule a condition is asked.
 #[derive(Clone, Copy, Debug, PartialEq, Eq)]
 pub enum Asked {
-    /// Of its end.
-    Ends,
+    /// Of its last state.
+    Last,
+    /// Of its last state, where that is an end: after a crash, or before the first one.
+    Ends(bool),
     /// Of each, from the one from which it runs to its end, and there of each image that a crash may leave.
     Crashes,
 }

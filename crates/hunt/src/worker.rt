@@ -5,10 +5,12 @@ ghost use Rattle.schedule.specs.Ranges.{max_schedules};
 ghost use Rattle.hunt.specs.Counts.{Has};
 ghost use Rattle.hunt.specs.Seats.{limit_of, view_of, IsSeatOf};
 ghost use Rattle.hunt.specs.Done.{after_verdict, ends_by, found_after};
+ghost use Rattle.hunt.specs.Ends.{breaks_end};
 ghost use Rattle.hunt.specs.Known.{IsKnown, IsTold};
 ghost use Rattle.hunt.specs.Least.{fails};
 ghost use Rattle.hunt.specs.Returns.{IsReady, Worked};
 
+use crate::end_state::is_end;
 use crate::errand::Returned;
 use crate::found::{Found, lesser};
 use crate::least_turn::loss_on;
@@ -32,6 +34,21 @@ fn holds_at_end(search: &Search, own: &mut Machine, number: u64) -> bool
     holds(&search.cond, &own.view())
 }
 
+/// Whether the condition holds at the end to which the schedule of a number comes, which is run on a machine of the same programs,
+/// or it comes to none.
+fn holds_if_ended(search: &Search, recovered: bool, own: &mut Machine, number: u64) -> bool
+    requires { AreSiblings own.old search.now.machine }
+    ensures breaks { result ≡ not (breaks_end recovered search.now.plan search.now.cond search.now.machine number) }
+    ensures programs { AreSiblings own.new search.now.machine }
+{
+    own.restore(&search.machine);
+    run_plan(own, &search.plan, number);
+    let view = own.view();
+    let ended = is_end(&view, recovered);
+    let met = holds(&search.cond, &view);
+    !ended || met
+}
+
 /// What is found of the schedule of a number, which is run on a machine of the same programs. None where it does not break
 /// the condition where that is asked.
 fn found_on(
@@ -45,8 +62,15 @@ fn found_on(
     ensures programs { OnOk result (AreSiblings own.new target.now.search.machine) }
 {
     match target.asked {
-        Asked::Ends => {
+        Asked::Last => {
             if holds_at_end(&target.search, own, number) {
+                Ok(None)
+            } else {
+                Ok(Some(Found { number, loss: None }))
+            }
+        }
+        Asked::Ends(recovered) => {
+            if holds_if_ended(&target.search, recovered, own, number) {
                 Ok(None)
             } else {
                 Ok(Some(Found { number, loss: None }))
@@ -123,7 +147,7 @@ fn conclude(
 
 /// Claims schedules until there is none left, or one is above a claim that was reported, and reports those that are looked
 /// for. It brings back what it found of the least of them. All schedules run on one machine, which has the programs of the one
-/// that they start from. Where ends are asked it takes no memory. The number of each schedule that was claimed is reported to
+/// that they start from. Where crashes are not asked it takes no memory. The number of each schedule that was claimed is reported to
 /// the gate, and again when it was run and is on the board where it is looked for. The only error is out of memory.
 pub(crate) fn work<G: Gate>(
     alloc: Global,
