@@ -49,11 +49,26 @@ pub struct LossesOptions<'a> {
     pub schedules: TallyOptions,
 }
 
+/// What `tally --ends` and `tally --recovered` are asked. The condition is a text, as given on the command line.
+#[derive(Clone, Copy, Debug)]
+pub struct EndsOptions<'a> {
+    /// Whether ends after a crash are asked about, by `--recovered`; otherwise those before the first crash are, by `--ends`.
+    pub recovered: bool,
+    /// COND: what is to hold at each such end to which a schedule comes.
+    pub cond: &'a str,
+    /// The options of a plan, `--first` and `--runs`.
+    pub schedules: TallyOptions,
+}
+
 /// What a schedule that is looked for breaks: a condition, which is a text, as given on the command line.
 #[derive(Clone, Copy, Debug)]
 pub enum Demand<'a> {
     /// `--cond COND`: it is to hold where the schedule ends.
     Cond(&'a str),
+    /// `--ends COND`: it is to hold at each end before the first crash to which a schedule comes.
+    Ends(&'a str),
+    /// `--recovered COND`: it is to hold at each end after a crash to which a schedule comes.
+    Recovered(&'a str),
     /// `--all COND`: it is to hold for all images that a crash may leave, after each turn and before the first.
     All(&'a str),
 }
@@ -61,7 +76,7 @@ pub enum Demand<'a> {
 /// What `hunt` is asked.
 #[derive(Clone, Copy, Debug)]
 pub struct HuntOptions<'a> {
-    /// `--cond` or `--all`: what a schedule that is looked for breaks.
+    /// `--cond`, `--ends`, `--recovered` or `--all`: what a schedule that is looked for breaks.
     pub demand: Demand<'a>,
     /// The options of a plan, `--first` and `--runs`: the least number is looked for among these schedules.
     pub schedules: TallyOptions,
@@ -214,8 +229,10 @@ pub enum ScheduleJob<'a> {
     Tally(TallyOptions),
     /// `tally --all`: counts those that break a condition by what a crash may leave.
     Losses(LossesOptions<'a>),
-    /// `hunt`: looks for the schedule with the smallest number that breaks a condition: where it ends, or by what a crash
-    /// may leave.
+    /// `tally --ends`, `tally --recovered`: counts those that come to an end, and those that break a condition there.
+    Ends(EndsOptions<'a>),
+    /// `hunt`: looks for the schedule with the smallest number that breaks a condition: where it ends, at an end to which it comes,
+    /// or by what a crash may leave.
     Hunt(HuntOptions<'a>),
 }
 

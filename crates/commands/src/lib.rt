@@ -36,9 +36,9 @@ pub use image_text::{
     push_candidates, push_image, push_images, push_names_shown, push_values, push_words,
 };
 pub use jobs::{
-    AskedRuns, CheckOptions, Demand, FencesOptions, HuntOptions, ImagesOptions, Job, LossesOptions,
-    MendOptions, NextOptions, OutcomesOptions, ReplayOptions, ScheduleJob, SetOptions,
-    TallyOptions, Task, TraceOptions,
+    AskedRuns, CheckOptions, Demand, EndsOptions, FencesOptions, HuntOptions, ImagesOptions, Job,
+    LossesOptions, MendOptions, NextOptions, OutcomesOptions, ReplayOptions, ScheduleJob,
+    SetOptions, TallyOptions, Task, TraceOptions,
 };
 pub use missing_text::{
     image_explained, push_image_lines, push_image_named, push_missing_line, push_where,

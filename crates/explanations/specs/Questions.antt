@@ -5,9 +5,11 @@ use Rattle.std.specs.List.{position_from, prefix_len}
 use Rattle.std.specs.Option.{option_map_or}
 use Rattle.commands.specs.declared.jobs.AskedRuns.{AskedRuns}
 use Rattle.commands.specs.declared.jobs.Demand.{Demand}
-use Rattle.commands.specs.declared.jobs.Demand.TheVariants.{All, Cond}
+use Rattle.commands.specs.declared.jobs.Demand.TheVariants.{All, Cond, Ends, Recovered}
 use Rattle.commands.specs.declared.jobs.Job.TheVariants.{Images}
 use Rattle.commands.specs.declared.jobs.ScheduleJob.{ScheduleJob}
+use Rattle.commands.specs.declared.jobs.EndsOptions.{EndsOptions}
+use Rattle.commands.specs.declared.jobs.ScheduleJob.TheVariants as jobs
 use Rattle.commands.specs.declared.jobs.ScheduleJob.TheVariants.{Hunt, Losses, Tally}
 use Rattle.commands.specs.declared.jobs.Task.{Task}
 use Rattle.commands.specs.declared.jobs.Task.TheVariants.{Check, Do, Fences, Mend, Schedules}
@@ -31,12 +33,19 @@ given option text = option_map (λ asked. (option, asked.now)) text
 -- what a schedule that is looked for breaks
 abbrev pub condition_demanded : Demand → Question
 condition_demanded (Cond text) = (codes "--cond", text.now)
+condition_demanded (Ends text) = (codes "--ends", text.now)
+condition_demanded (Recovered text) = (codes "--recovered", text.now)
 condition_demanded (All text) = (codes "--all", text.now)
+
+-- what is to hold at the ends to which schedules come
+abbrev pub condition_at_ends : EndsOptions → Question
+condition_at_ends options = (if options.recovered then codes "--recovered" else codes "--ends", options.cond.now)
 
 -- the condition of schedules
 abbrev pub condition_of_schedules : ScheduleJob → Option Question
 condition_of_schedules (Tally options) = None
 condition_of_schedules (Losses options) = Some (codes "--all", options.all.now)
+condition_of_schedules (jobs.Ends options) = Some (condition_at_ends options)
 condition_of_schedules (Hunt options) = Some (condition_demanded options.demand)
 
 -- the conditions that `fences` and `mend` ask of all runs

@@ -1,7 +1,7 @@
 //! Faults of what the command line asks: of a condition, which one has it and where; of the values of `--set`. And conditions that
 //! ask of a processor that is not there.
 ghost use Rattle.std.specs.Prelude.{◌≡◌, IfOk};
-ghost use Rattle.explanations.specs.Questions.{asked_of_runs, condition_of_schedules, faulty_of, faulty_or, given, is_faulty, questions_of};
+ghost use Rattle.explanations.specs.Questions.{asked_of_runs, condition_at_ends, condition_demanded, condition_of_schedules, faulty_of, faulty_or, given, is_faulty, questions_of};
 
 use crate::evidence::Evidence;
 use crate::hints::{OF_A_CONDITION, hint_of};
@@ -10,7 +10,7 @@ use crate::parts::{Pushed, again, push_hint, push_sentence};
 use crate::sentences::refused_sentence;
 use crate::slips::condition_meant;
 use crate::spots::Spot;
-use commands::{AskedRuns, Demand, Job, Refused, ScheduleJob, Task, read_program};
+use commands::{AskedRuns, Demand, EndsOptions, Job, Refused, ScheduleJob, Task, read_program};
 use conditions::read_cond;
 use line_forms::condition_or_end;
 use lines_layout::Layout;
@@ -51,6 +51,29 @@ fn given<'a>(option: &'static str, text: Option<&'a str>) -> Option<Question<'a>
     }
 }
 
+/// What a schedule that is looked for breaks.
+fn condition_demanded<'a>(demand: Demand<'a>) -> Question<'a>
+    ensures { result ≡ condition_demanded demand.entry }
+{
+    match demand {
+        Demand::Cond(text) => of_option("--cond", text),
+        Demand::Ends(text) => of_option("--ends", text),
+        Demand::Recovered(text) => of_option("--recovered", text),
+        Demand::All(text) => of_option("--all", text),
+    }
+}
+
+/// What is to hold at the ends to which schedules come.
+fn condition_at_ends<'a>(options: EndsOptions<'a>) -> Question<'a>
+    ensures { result ≡ condition_at_ends options.entry }
+{
+    if options.recovered {
+        of_option("--recovered", options.cond)
+    } else {
+        of_option("--ends", options.cond)
+    }
+}
+
 /// The condition of schedules.
 fn condition_of_schedules<'a>(job: ScheduleJob<'a>) -> Option<Question<'a>>
     ensures { result ≡ condition_of_schedules job.entry }
@@ -58,10 +81,8 @@ fn condition_of_schedules<'a>(job: ScheduleJob<'a>) -> Option<Question<'a>>
     match job {
         ScheduleJob::Tally(_) => None,
         ScheduleJob::Losses(options) => Some(of_option("--all", options.all)),
-        ScheduleJob::Hunt(options) => match options.demand {
-            Demand::All(text) => Some(of_option("--all", text)),
-            Demand::Cond(text) => Some(of_option("--cond", text)),
-        },
+        ScheduleJob::Ends(options) => Some(condition_at_ends(options)),
+        ScheduleJob::Hunt(options) => Some(condition_demanded(options.demand)),
     }
 }
 

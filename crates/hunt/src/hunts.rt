@@ -251,7 +251,7 @@ fn first_broken_end<R: Threads, G: Gate + Send + Sync + Drop + 'static>(
 /// # Errors
 ///
 /// Those of [`hunt`].
-pub fn hunt_ends<R: Threads, G: Gate + Send + Sync + Drop + 'static>(
+pub fn hunt_ended<R: Threads, G: Gate + Send + Sync + Drop + 'static>(
     rt: &R,
     alloc: Global,
     search: &Search,

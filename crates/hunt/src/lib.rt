@@ -14,7 +14,7 @@
 //!
 //! Each answer is that of one thread. [`Tally`] is seen as the different outcomes in the order of their first numbers,
 //! with counts. Promise: [`tally`] is `tally_from`, [`count_losses`] `losses_among`, [`hunt`] `least_from`, [`hunt_crashes`]
-//! `least_loss`, [`hunt_ends`] the least that comes to an end and breaks the condition there, [`count_ends`] `ends_among`, for any number of threads. Each number of a [`Board`] is claimed once, and `settle` is the least that was
+//! `least_loss`, [`hunt_ended`] the least that comes to an end and breaks the condition there, [`count_ends`] `ends_among`, for any number of threads. Each number of a [`Board`] is claimed once, and `settle` is the least that was
 //! reported.
 //! Definitions: `specs/Outcomes`, `Same` (which outcomes are equal), `Tallies`; `Crashes` (what breaks a condition, turn by
 //! turn), `Ends` (ends to which schedules come), `Losses` (the same in the words of images), `LossSums` (losses of numbers that follow one another), `Unchanged` (steps
@@ -49,7 +49,7 @@ mod worker;
 pub use end_counts::{EndCounts, count_ends};
 pub use ends::outcome;
 pub use fault::{HuntFault, NoThread};
-pub use hunts::{hunt, hunt_crashes, hunt_ends, loss_of};
+pub use hunts::{hunt, hunt_crashes, hunt_ended, loss_of};
 pub use loss::{Breach, Loss, Moment};
 pub use losses::{Losses, count_losses};
 pub use observed::{Outcome, WordPair};

@@ -8,12 +8,12 @@ use Rattle.image_reasons.specs.Reasons.{missing_after}
 use Rattle.commands.specs.Serving.{Report}
 use Rattle.commands.specs.declared.jobs.HuntOptions.{HuntOptions}
 use Rattle.commands.specs.declared.status.Status.{Status}
-use Rattle.commands.specs.declared.status.Status.TheVariants.{Done, Unmet}
+use Rattle.commands.specs.declared.status.Status.TheVariants.{Unmet}
 use Rattle.thread_jobs.specs.declared.found.Found.{Found}
 use Rattle.thread_jobs.specs.Founds.{steps_found, steps_to}
-use Rattle.thread_jobs.specs.HuntReports.{explains_image}
+use Rattle.thread_jobs.specs.HuntReports.{explains_image, none_status}
 use Rattle.thread_jobs.specs.HuntStarts.{HuntStart}
-use Rattle.json_texts.specs.Objects.{Field, Tree, header, null, num, nums, obj}
+use Rattle.json_texts.specs.Objects.{Field, Tree, header, null, num, nums, obj, or_null}
 use Rattle.json_texts.specs.ImageData.{candidates_data, names_data}
 use Rattle.json_texts.specs.ReasonData.{explained_data}
 use Rattle.json_texts.specs.SourceMaps.{SourceMap}
@@ -77,17 +77,18 @@ found_explained start (Some found) = breach_explained start found.at found.breac
 abbrev pub explained : HuntOptions → HuntStart → Option Found → Tree
 explained options start found = if explains_image options then found_explained start found else null
 
--- the names of the words, what explains the image, and what a hunt found
-abbrev pub hunt_data : HuntOptions → HuntStart → Option Found → Tree
-hunt_data options start found =
+-- the names of the words, what explains the image, how many schedules come to an end, where ends are asked and none of them was
+-- found, and what was
+abbrev pub hunt_data : HuntOptions → HuntStart → Option Found → Option ℕ → Tree
+hunt_data options start found ended =
     obj (header (codes "hunt") ++ (codes "words", names_data start.object.layout)
-    ∷ (codes "explained", explained options start found) ∷ found_fields start found)
+    ∷ (codes "explained", explained options start found) ∷ (codes "ended", or_null num ended) ∷ found_fields start found)
 
--- whether it found nothing
-abbrev pub hunt_status : Option Found → Status
-hunt_status None = Done
-hunt_status (Some found) = Unmet
+-- whether it found nothing, and something was asked
+abbrev pub hunt_status : Option Found → Option ℕ → Status
+hunt_status None ended = none_status ended
+hunt_status (Some found) ended = Unmet
 
 -- the same as a report
-abbrev pub hunt_report : HuntOptions → HuntStart → Option Found → Report
-hunt_report options start found = value_report (hunt_data options start found) (hunt_status found)
+abbrev pub hunt_report : HuntOptions → HuntStart → Option Found → Option ℕ → Report
+hunt_report options start found ended = value_report (hunt_data options start found ended) (hunt_status found ended)

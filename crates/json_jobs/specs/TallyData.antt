@@ -4,12 +4,13 @@ use Rattle.lines_layout.specs.Layouts.{NamedLines}
 use Rattle.lines_layout.specs.Names.{Text}
 use Rattle.hunt.specs.Outcomes.{Observed}
 use Rattle.hunt.specs.declared.loss.Moment.{Moment}
+use Rattle.hunt.specs.declared.end_counts.EndCounts.{EndCounts}
 use Rattle.hunt.specs.declared.losses.Losses.{Losses}
 use Rattle.hunt.specs.declared.observed.WordPair.{WordPair}
 use Rattle.commands.specs.OutcomeTexts.{names_of}
 use Rattle.commands.specs.Serving.{Report}
 use Rattle.commands.specs.declared.status.Status.TheVariants.{Done}
-use Rattle.json_texts.specs.Objects.{Tree, header, list, num, obj, or_null, word}
+use Rattle.json_texts.specs.Objects.{Tree, header, list, null, num, obj, or_null, word}
 use Rattle.json_texts.specs.RegisterData.{values_data}
 use Rattle.json_texts.specs.ValueReports.{value_report}
 
@@ -58,3 +59,17 @@ losses_data runs losses =
 -- the same as a report
 abbrev pub losses_report : ℕ → Losses → Report
 losses_report runs losses = value_report (losses_data runs losses) Done
+
+-- a schedule that comes to an end: no turn of it is told
+abbrev pub number_data : ℕ → Tree
+number_data number = obj ((codes "number", num number) ∷ (codes "turn", null) ∷ [])
+
+-- how many of so many schedules break the condition at an end, how many come to one, and the first of those that break it
+abbrev pub ends_data : ℕ → EndCounts → Tree
+ends_data runs counts =
+    obj (header (codes "tally") ++ (codes "broken", num counts.broken) ∷ (codes "of", num runs) ∷ (codes "ended", num counts.ended)
+    ∷ (codes "first", or_null number_data counts.first) ∷ [])
+
+-- the same as a report
+abbrev pub ends_report : ℕ → EndCounts → Report
+ends_report runs counts = value_report (ends_data runs counts) Done

@@ -2,12 +2,13 @@
 ghost use Rattle.json_jobs.specs.JsonForm.{json_reports};
 ghost use Rattle.json_jobs.specs.LiveData.{json_journals};
 
+use crate::ends_value::ends_report;
 use crate::hunt_value::hunt_report;
 use crate::live_value::journal_report;
 use crate::losses_value::losses_report;
 use crate::tally_value::tally_report;
 use commands::{HuntOptions, Report};
-use hunt::{Losses, Tally};
+use hunt::{EndCounts, Losses, Tally};
 use lines_layout::Layout;
 use litmus_text::LinedObject;
 use live::Closed;
@@ -28,13 +29,18 @@ impl ReportsSchedules for JsonReports {
         losses_report(alloc, runs, losses)
     }
 
+    fn ends_report(alloc: Global, runs: u64, counts: EndCounts) -> Result<Report, AllocError> {
+        ends_report(alloc, runs, counts)
+    }
+
     fn hunt_report(
         alloc: Global,
         options: &HuntOptions<'_>,
         start: &HuntStart,
         found: Option<&Found>,
+        ended: Option<u64>,
     ) -> Result<Report, AllocError> {
-        hunt_report(alloc, options, start, found)
+        hunt_report(alloc, options, start, found, ended)
     }
 }
 

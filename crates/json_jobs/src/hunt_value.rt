@@ -11,13 +11,13 @@ use hunt::{Breach, Moment};
 use image_reasons::{Missing, missing_writes};
 use images::{Count, Image};
 use json_texts::{
-    Fields, SourceMap, candidates_value, explained_value, names_value, numbers_value, put_number,
-    report_fields, step_lines_value, steps_value, value_report,
+    Fields, SourceMap, candidates_value, explained_value, names_value, number_or_null,
+    numbers_value, put_number, report_fields, step_lines_value, steps_value, value_report,
 };
 use machine::Step;
 use serde_json::{Value, put};
 use std::alloc::{AllocError, Global};
-use thread_jobs::{Found, HuntStart, explains_image, steps_found, steps_to};
+use thread_jobs::{Found, HuntStart, explains_image, none_status, steps_found, steps_to};
 
 /// Puts a turn, and what breaks the condition after it.
 fn put_breach(
@@ -170,32 +170,35 @@ fn explained_or_null(
     }
 }
 
-/// The names of the words, what explains the image, and what a hunt found.
+/// The names of the words, what explains the image, how many schedules come to an end, where ends are asked and none of them was
+/// found, and what was.
 fn hunt_value(
     alloc: Global,
     options: &HuntOptions<'_>,
     start: &HuntStart,
     found: Option<&Found>,
+    ended: Option<u64>,
 ) -> Result<Value, AllocError>
     ensures { IfOk result (IsJsonOf
-        (hunt_data options.now start.now (option_copied found.entry))) }
+        (hunt_data options.now start.now (option_copied found.entry) ended)) }
 {
     let mut fields = report_fields(alloc, "hunt")?;
     let words = names_value(alloc, start.object.layout())?;
     put(&mut fields, alloc, "words", words)?;
     let explained = explained_or_null(alloc, options, start, found)?;
     put(&mut fields, alloc, "explained", explained)?;
+    put(&mut fields, alloc, "ended", number_or_null(ended))?;
     put_found(&mut fields, alloc, start, found)?;
     Ok(Value::from(fields))
 }
 
-/// Status 1 where a schedule was found.
-fn hunt_status(found: Option<&Found>) -> Status
-    ensures { result ≡ hunt_status (option_copied found.entry) }
+/// Status 1 where a schedule was found, or ends are asked and no schedule comes to one.
+fn hunt_status(found: Option<&Found>, ended: Option<u64>) -> Status
+    ensures { result ≡ hunt_status (option_copied found.entry) ended }
 {
     match found {
         Some(_) => Status::Unmet,
-        None => Status::Done,
+        None => none_status(ended),
     }
 }
 
@@ -205,10 +208,11 @@ pub(crate) fn hunt_report(
     options: &HuntOptions<'_>,
     start: &HuntStart,
     found: Option<&Found>,
+    ended: Option<u64>,
 ) -> Result<Report, AllocError>
     ensures { IfOk result (λ report. report
-        ≡ hunt_report options.now start.now (option_copied found.entry)) }
+        ≡ hunt_report options.now start.now (option_copied found.entry) ended) }
 {
-    let value = hunt_value(alloc, options, start, found)?;
-    value_report(alloc, &value, hunt_status(found))
+    let value = hunt_value(alloc, options, start, found, ended)?;
+    value_report(alloc, &value, hunt_status(found, ended))
 }

@@ -13,6 +13,7 @@
 mod all_runs;
 mod check_report;
 mod command;
+mod ends_value;
 mod form;
 mod hunt_value;
 mod json;

@@ -5,6 +5,7 @@ ghost use Rattle.litmus_text.specs.declared.text_lines.LinedObject.{LinedObject}
 ghost use Rattle.machine.specs.State.{State};
 ghost use Rattle.live.specs.declared.journal.JournalEntry.{JournalEntry};
 ghost use Rattle.hunt.specs.Outcomes.{Observed};
+ghost use Rattle.hunt.specs.declared.end_counts.EndCounts.{EndCounts};
 ghost use Rattle.hunt.specs.declared.losses.Losses.{Losses};
 ghost use Rattle.commands.specs.declared.jobs.HuntOptions.{HuntOptions};
 ghost use Rattle.thread_jobs.specs.HuntStarts.{HuntStart};
@@ -20,8 +21,10 @@ pub fn statuses_are_those_of_text()
         → (json_reports.of_tally layout tally).status ≡ (text_reports.of_tally layout tally).status }
     ensures losses { (runs : ℕ) (losses : Losses)
         → (json_reports.of_losses runs losses).status ≡ (text_reports.of_losses runs losses).status }
-    ensures hunt { (options : HuntOptions) (start : HuntStart) (found : Option Found)
-        → (json_reports.of_hunt options start found).status ≡ (text_reports.of_hunt options start found).status }
+    ensures ends { (runs : ℕ) (counts : EndCounts)
+        → (json_reports.of_ends runs counts).status ≡ (text_reports.of_ends runs counts).status }
+    ensures hunt { (options : HuntOptions) (start : HuntStart) (found : Option Found) (ended : Option ℕ)
+        → (json_reports.of_hunt options start found ended).status ≡ (text_reports.of_hunt options start found ended).status }
     ensures live { (lined : LinedObject) (journal : List JournalEntry) (s : State)
         → (json_journals lined journal s).status ≡ (text_journals lined journal s).status }
 {}

@@ -21,7 +21,7 @@ use Rattle.commands.specs.declared.jobs.AskedRuns.{AskedRuns}
 use Rattle.commands.specs.declared.jobs.CheckOptions.{CheckOptions}
 use Rattle.commands.specs.declared.jobs.OutcomesOptions.{OutcomesOptions}
 use Rattle.commands.specs.declared.jobs.Demand.{Demand}
-use Rattle.commands.specs.declared.jobs.Demand.TheVariants.{Cond, All}
+use Rattle.commands.specs.declared.jobs.Demand.TheVariants.{Cond, Ends, Recovered, All}
 use Rattle.commands.specs.declared.jobs.HuntOptions.{HuntOptions}
 use Rattle.commands.specs.declared.jobs.FencesOptions.{FencesOptions}
 use Rattle.commands.specs.declared.jobs.MendOptions.{MendOptions}
@@ -142,14 +142,26 @@ IsNumberIfAny bound None read = read ≡ None
 IsNumberIfAny bound (Some text) None = ⊥
 IsNumberIfAny bound (Some text) (Some n) = Spells bound text n
 
--- how many turns a schedule has at most, where `--length` is left out: 1,000 where every turn is asked about, by `--all`;
--- otherwise 100
-abbrev pub default_length : List Row → ℕ
-default_length rows = if has_value (codes "all") rows then 1000 else 100
+-- whether a parse found a condition on all runs, or on every turn or the end of schedules: `--all`, `--ends` or `--recovered`
+abbrev pub has_condition : List Row → Bool
+has_condition rows = has_value (codes "all") rows || (has_value (codes "ends") rows || has_value (codes "recovered") rows)
 
--- whether a parse found `--lazy`, and an option that asks for what has persisted: `--crash-after` or `--cond`
+-- whether it found a condition on ends: `--ends` or `--recovered`
+abbrev pub asks_ends : List Row → Bool
+asks_ends rows = has_value (codes "ends") rows || has_value (codes "recovered") rows
+
+-- how many turns a schedule has at most, where `--length` is left out: 1,000 where every turn is asked about, by `--all`, or an end
+-- to which it comes, by `--ends` or `--recovered`; otherwise 100
+abbrev pub default_length : List Row → ℕ
+default_length rows = if has_condition rows then 1000 else 100
+
+-- whether a parse found an option that asks for what has persisted: `--crash-after`, `--cond`, `--ends` or `--recovered`
+abbrev pub asks_persisted : List Row → Bool
+asks_persisted rows = has_value (codes "crash-after") rows || (has_value (codes "cond") rows || asks_ends rows)
+
+-- whether a parse found `--lazy`, and an option that asks for what has persisted
 abbrev pub asks_beyond_lazy : List Row → Bool
-asks_beyond_lazy rows = is_given (codes "lazy") rows && (has_value (codes "crash-after") rows || has_value (codes "cond") rows)
+asks_beyond_lazy rows = is_given (codes "lazy") rows && asks_persisted rows
 
 -- The plan of schedules that a parse found: nothing is asked of what has persisted, where it is lazy.
 pub record IsPlan (rows : List Row) (plan : Plan) : Type 0 where
@@ -182,15 +194,17 @@ IsThreadCount read n = IsThreadCountOr 2 read n
 abbrev pub IsWorkerCount : Option Text → ℕ → Type 0
 IsWorkerCount read n = IsThreadCountOr 1 read n
 
--- `--cond` or `--all` is given, and not both: what is demanded of each schedule.
-abbrev pub IsDemand : Option Text → Option Text → Demand → Type 0
-IsDemand (Some text) None (Cond asked) = text ≡ asked.now
-IsDemand None (Some text) (All asked) = text ≡ asked.now
-IsDemand _ _ _ = ⊥
+-- One of `--cond`, `--all`, `--ends` and `--recovered` is given, and no other: what is demanded of each schedule.
+abbrev pub IsDemand : Option Text → Option Text → Option Text → Option Text → Demand → Type 0
+IsDemand (Some text) None None None (Cond asked) = text ≡ asked.now
+IsDemand None (Some text) None None (All asked) = text ≡ asked.now
+IsDemand None None (Some text) None (Ends asked) = text ≡ asked.now
+IsDemand None None None (Some text) (Recovered asked) = text ≡ asked.now
+IsDemand _ _ _ _ _ = ⊥
 
 -- The options of `hunt` that a parse found: no image is to be explained where there is none.
 pub record AreHuntOptions (rows : List Row) (options : HuntOptions) : Type 0 where
-  pub demand : IsDemand (first_of (codes "cond") rows) (first_of (codes "all") rows) options.demand
+  pub demand : IsDemand (first_of (codes "cond") rows) (first_of (codes "all") rows) (first_of (codes "ends") rows) (first_of (codes "recovered") rows) options.demand
   pub schedules : AreSchedules rows options.schedules
   pub workers : IsThreadCount (first_of (codes "workers") rows) options.workers
   pub within : lacks_image rows ≡ false
@@ -217,10 +231,6 @@ has_question rows =
 -- whether it found a question of recovery, and that recovery is not explored
 abbrev pub lacks_recovery : List Row → Bool
 lacks_recovery rows = is_given (codes "before-crash") rows && has_value (codes "recovered") rows
-
--- whether a parse found a condition on all runs: `--all`, `--ends` or `--recovered`
-abbrev pub has_condition : List Row → Bool
-has_condition rows = has_value (codes "all") rows || (has_value (codes "ends") rows || has_value (codes "recovered") rows)
 
 -- whether it found that a run is to be explained that breaks a condition, and none
 abbrev pub lacks_condition : List Row → Bool
@@ -272,11 +282,18 @@ pub record AreMendOptions (rows : List Row) (options : MendOptions) : Type 0 whe
   pub counted : IsWorkerCount (first_of (codes "workers") rows) workers
   pub as_text : options.as_text ≡ is_given (codes "as-text") rows
 
--- A parse of `tally` found that it is asked for all ends, or for the losses by a condition.
+-- What `tally` is asked of its schedules, by the texts of `--all`, `--ends` and `--recovered`: how they end, where none of these is
+-- given; the losses by the condition of the first, or the ends to which they come by that of another, where it alone is.
+abbrev pub IsTallyOf : Option Text → Option Text → Option Text → List Row → ScheduleJob → Type 0
+IsTallyOf None None None rows (schedules.Tally options) = AreSchedules rows options
+IsTallyOf (Some text) None None rows (schedules.Losses options) = (text ≡ options.all.now) × AreSchedules rows options.schedules
+IsTallyOf None (Some text) None rows (schedules.Ends options) = (text ≡ options.cond.now) × (options.recovered ≡ false) × AreSchedules rows options.schedules
+IsTallyOf None None (Some text) rows (schedules.Ends options) = (text ≡ options.cond.now) × (options.recovered ≡ true) × AreSchedules rows options.schedules
+IsTallyOf _ _ _ _ _ = ⊥
+
+-- A parse of `tally` found that it is asked this.
 abbrev pub IsTallyJob : List Row → ScheduleJob → Type 0
-IsTallyJob rows (schedules.Tally options) = (first_of (codes "all") rows ≡ None) × AreSchedules rows options
-IsTallyJob rows (schedules.Losses options) = (first_of (codes "all") rows ≡ Some options.all.now) × AreSchedules rows options.schedules
-IsTallyJob rows _ = ⊥
+IsTallyJob rows job = IsTallyOf (first_of (codes "all") rows) (first_of (codes "ends") rows) (first_of (codes "recovered") rows) rows job
 
 -- A task is made of something with the property.
 abbrev pub IsMadeOf : {A : Type 0} → (A → Task) → (A → Type 0) → Task → Type 0

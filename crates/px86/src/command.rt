@@ -511,6 +511,16 @@ const TALLY: &CommandRow = &CommandRow {
             "COND",
             "Count the schedules that break this by what a crash may leave"
         ),
+        value!(
+            "ends",
+            "COND",
+            "Count the schedules that break this at an end before the first crash"
+        ),
+        value!(
+            "recovered",
+            "COND",
+            "Count the schedules that break this at an end after a crash"
+        ),
         SCHEDULES_DONE,
         JSON,
     ],
@@ -529,6 +539,16 @@ const HUNT: &CommandRow = &CommandRow {
         RUNS,
         value!("cond", "COND", "What is to hold where a schedule ends"),
         value!("all", "COND", ALL_TURNS),
+        value!(
+            "ends",
+            "COND",
+            "What is to hold at each end before the first crash"
+        ),
+        value!(
+            "recovered",
+            "COND",
+            "What is to hold at each end after a crash"
+        ),
         LAZY,
         WORKERS,
         flag!("show", "Print the steps of the schedule too"),

@@ -92,7 +92,7 @@ Example:
 pub(crate) const REPLAYS: &str = "\
 Schedules are those of `px86 tally` and `px86 hunt`: --number says which, from 0. Where its number
 comes from a hunt or a tally, give the same --seed, --length, --crash-after and --lazy. Where --length
-was left out, a number of `hunt --all` or `tally --all` is given here with --length 1000. The report is
+was left out, a number of a hunt or tally by --all, --ends or --recovered is given here with --length 1000. The report is
 its steps, one a line, to be made after those that were given. Whether they break anything is not asked.
 
 Example, with no steps before the schedule:
@@ -213,6 +213,9 @@ Each line of the report is a way to end, in the order of the first schedule that
 
 With --all COND the report is `broken N of K`, how many schedules break the condition by what a
 crash may leave after some turn, and `first NUMBER T`, what `px86 hunt --all` finds.
+With --ends COND or --recovered COND it is `broken N of K`, how many schedules come to an end that
+breaks the condition, `ended N of K`, how many come to one at all, and `first NUMBER`. Ends are those of
+`px86 check`. With --all, --ends and --recovered a schedule has 1,000 turns where --length is not given.
 
 Examples, with no steps before the schedules:
   px86 tally --runs 1000 --length 12 --no-steps store-buffering.litmus
@@ -220,8 +223,8 @@ Examples, with no steps before the schedules:
 
 /// What is under the help of `hunt`.
 pub(crate) const HUNTS: &str = "\
-One of --cond and --all is given. Schedules are those of `px86 tally`, a condition is as for
-`px86 images`, and `none` speaks of the schedules that were run alone.
+One of --all, --cond, --ends and --recovered is given. Schedules are those of `px86 tally`, a condition
+is as for `px86 images`, and `none` speaks of the schedules that were run alone.
 
 With --all the condition is asked of every image that a crash may leave, before the first turn and
 after each. The report is `none`, or of the first schedule and the least turn of it
@@ -230,9 +233,13 @@ after each. The report is `none`, or of the first schedule and the least turn of
   image V ..         the first image that breaks the condition, or
   candidates more    where there are too many to list
 To `px86 replay` give NUMBER with the same --seed, --length, --crash-after and --lazy, and with
---length 1000 where none was given.
+--length 1000 where none was given, also of a number that --ends or --recovered found.
 With --cond it is asked of the state at the end of each schedule alone, and of no image: the report
 is `least NUMBER` or `none`.
+With --ends it is asked of the ends of `px86 check` to which schedules come: each processor has nothing
+left to do, and nothing is pending. Behind `none` a line `ended N of K` says how many come to one; if none
+does, the report is `ends asked of no state`, and the status 1: give a higher --length. With --recovered
+it is asked of ends after a crash, of --crash-after T or of the given steps.
 
 With --lazy no step persists or settles. What such a step leaves could be left before it, so more of the
 turns are of the program. But what is pending stays: there are more candidates, and what finds no room

@@ -3,8 +3,8 @@
 use crate::arguments::command_line;
 use crate::command::{Bound, Command, CommandOption};
 use crate::options::{
-    count, has_condition, has_value, is_given, lacks_condition, lacks_image, lacks_recovery,
-    lacks_states, number, only_of, small_number, value,
+    asks_ends, count, demand_of, has_condition, has_value, is_given, lacks_condition, lacks_image,
+    lacks_recovery, lacks_states, number, only_of, small_number, value,
 };
 use clap::error::ErrorKind;
 use clap::{ArgMatches, Error};
@@ -153,21 +153,39 @@ fn lazy_clash(matches: &ArgMatches<'_>) -> Option<&'static str> {
         )
     } else if has_value(matches, "cond") {
         Some("--lazy may not be given with --cond: no turn persists what is asked of an end")
+    } else if asks_ends(matches) {
+        Some("--lazy may not be given with --ends or --recovered: no turn persists what is pending")
     } else {
         None
+    }
+}
+
+/// What is said where `tally` is asked two questions.
+fn tally_clash(matches: &ArgMatches<'_>) -> Option<&'static str> {
+    let all = has_value(matches, "all");
+    let ends = has_value(matches, "ends");
+    match (all, ends, has_value(matches, "recovered")) {
+        (true, true, _) | (true, _, true) | (_, true, true) => Some(
+            "of --all, --ends and --recovered one alone may be given: tally counts what breaks that",
+        ),
+        _ => None,
     }
 }
 
 /// What is said where `hunt` is asked for two kinds of fault, or for none, or for an image of no condition, or for more than a lazy
 /// schedule has.
 fn hunt_clash(matches: &ArgMatches<'_>) -> Option<&'static str> {
-    match (has_value(matches, "cond"), has_value(matches, "all")) {
-        (true, true) => Some("--all and --cond may not be given together"),
-        (false, false) => Some(
-            "hunt needs --all COND, what any crash may leave, or --cond COND, where a schedule ends",
-        ),
-        _ => image_clash(matches).or(lazy_clash(matches)),
+    if !has_condition(matches) && !has_value(matches, "cond") {
+        return Some(
+            "hunt needs --all COND, what any crash may leave, --cond COND, where a schedule ends, or --ends COND or --recovered COND, an end to which it comes",
+        );
     }
+    if demand_of(matches).is_none() {
+        return Some(
+            "of --all, --cond, --ends and --recovered one alone may be given: hunt looks for what breaks that",
+        );
+    }
+    image_clash(matches).or(lazy_clash(matches))
 }
 
 /// What is said where a conversation is asked for, and a script from elsewhere.
@@ -193,6 +211,7 @@ fn clash(command: Command, matches: &ArgMatches<'_>) -> Option<&'static str> {
         }
         Command::Debug => input_clash(matches),
         Command::Replay => lazy_clash(matches),
+        Command::Tally => tally_clash(matches),
         Command::Hunt => hunt_clash(matches),
         Command::Fences => fences_clash(matches),
         Command::Mend => mend_clash(matches),

@@ -3,7 +3,7 @@ ghost use Rattle.std.specs.Prelude.{◌≡◌, ◌^◌, ◌&&◌, not, option_co
 ghost use Rattle.std.specs.List.{starts_with};
 ghost use Rattle.std.specs.Prelude.{codes, nat_eq};
 ghost use Rattle.clap.specs.Words.{first_of, found_of, rows_of};
-ghost use Rattle.px86.specs.CommandLines.{asks_beyond, asks_beyond_lazy, asks_of_all, default_length, default_states, has_condition, has_question, has_value, is_given, lacks_condition, lacks_image, lacks_recovery, lacks_states, millions_of, AreCheckOptions, AreHuntOptions, AreNextOptions, AreOptions, AreOutcomesOptions, AreSchedules, AreTraceOptions, Finds, IsCountOr, IsDemand, IsImagesJob, IsNumberIfAny, IsNumberOr, IsPlan, IsSchedule, IsSiteIfAny, IsTallyJob, IsThreadCount, IsThreadCountOr, IsWorkerCount, Spells, SpellsCount};
+ghost use Rattle.px86.specs.CommandLines.{asks_beyond, asks_beyond_lazy, asks_ends, asks_of_all, asks_persisted, default_length, default_states, has_condition, has_question, has_value, is_given, lacks_condition, lacks_image, lacks_recovery, lacks_states, millions_of, AreCheckOptions, AreHuntOptions, AreNextOptions, AreOptions, AreOutcomesOptions, AreSchedules, AreTraceOptions, Finds, IsCountOr, IsDemand, IsImagesJob, IsNumberIfAny, IsNumberOr, IsPlan, IsSchedule, IsSiteIfAny, IsTallyJob, IsThreadCount, IsThreadCountOr, IsWorkerCount, Spells, SpellsCount};
 
 use crate::command::{
     CRASH_AFTER, CommandOption, FIRST, LENGTH, MENDERS, NUMBER, RUNS, SEED, STATES, THREADS,
@@ -11,14 +11,14 @@ use crate::command::{
 };
 use clap::ArgMatches;
 use commands::{
-    AskedSite, CheckOptions, Demand, HuntOptions, ImagesOptions, Job, LossesOptions, NextOptions,
-    OutcomesOptions, ReplayOptions, ScheduleJob, SetOptions, TallyOptions, TraceOptions,
-    site_named,
+    AskedSite, CheckOptions, Demand, EndsOptions, HuntOptions, ImagesOptions, Job, LossesOptions,
+    NextOptions, OutcomesOptions, ReplayOptions, ScheduleJob, SetOptions, TallyOptions,
+    TraceOptions, site_named,
 };
 use schedule::Plan;
 use workers::MAX_SEATS;
 
-/// How many turns a schedule has at most, where every turn is asked about and no option says so.
+/// How many turns a schedule has at most, where every turn is asked about, or an end to which it comes, and no option says so.
 const LENGTH_BY_TURNS: u32 = 1_000;
 
 /// How many turns a schedule has at most otherwise, where no option says so.
@@ -178,11 +178,30 @@ pub(crate) fn live_count(matches: &ArgMatches<'_>) -> Option<u64>
 fn default_length(matches: &ArgMatches<'_>) -> u32
     ensures { result ≡ default_length (rows_of (found_of matches.now)) }
 {
-    if has_value(matches, "all") {
+    if has_condition(matches) {
         LENGTH_BY_TURNS
     } else {
         LENGTH_BY_ENDS
     }
+}
+
+/// Whether a condition on ends is given.
+pub(crate) fn asks_ends(matches: &ArgMatches<'_>) -> bool
+    ensures { result ≡ asks_ends (rows_of (found_of matches.now)) }
+{
+    let ends = has_value(matches, "ends");
+    let recovered = has_value(matches, "recovered");
+    ends || recovered
+}
+
+/// Whether an option is given that asks for what has persisted.
+fn asks_persisted(matches: &ArgMatches<'_>) -> bool
+    ensures { result ≡ asks_persisted (rows_of (found_of matches.now)) }
+{
+    let crashes = has_value(matches, "crash-after");
+    let last = has_value(matches, "cond");
+    let ends = asks_ends(matches);
+    crashes || last || ends
 }
 
 /// Whether `--lazy` is given, and an option that asks for what has persisted.
@@ -190,9 +209,8 @@ fn asks_beyond_lazy(matches: &ArgMatches<'_>) -> bool
     ensures { result ≡ asks_beyond_lazy (rows_of (found_of matches.now)) }
 {
     let lazy = is_given(matches, "lazy");
-    let crashes = has_value(matches, "crash-after");
-    let ends = has_value(matches, "cond");
-    lazy && (crashes || ends)
+    let persisted = asks_persisted(matches);
+    lazy && persisted
 }
 
 /// The plan of schedules that a parse found, if nothing is asked that a lazy one does not have.
@@ -324,25 +342,45 @@ pub(crate) fn replay_options(matches: &ArgMatches<'_>) -> Option<ReplayOptions>
     Some(ReplayOptions { plan, number })
 }
 
-/// What `tally` is asked for: all ends, or the losses by a condition.
+/// What `tally` is asked for: how schedules end, the losses by a condition, or the ends to which they come by one.
 pub(crate) fn tally_job<'a>(matches: &ArgMatches<'a>) -> Option<ScheduleJob<'a>>
     ensures { Finds (IsTallyJob (rows_of (found_of matches.now))) result }
 {
     let schedules = schedules_of(matches)?;
-    match value(matches, "all") {
-        None => Some(ScheduleJob::Tally(schedules)),
-        Some(all) => Some(ScheduleJob::Losses(LossesOptions { all, schedules })),
+    let all = value(matches, "all");
+    let ends = value(matches, "ends");
+    match (all, ends, value(matches, "recovered")) {
+        (None, None, None) => Some(ScheduleJob::Tally(schedules)),
+        (Some(all), None, None) => Some(ScheduleJob::Losses(LossesOptions { all, schedules })),
+        (None, Some(cond), None) => Some(ScheduleJob::Ends(EndsOptions {
+            recovered: false,
+            cond,
+            schedules,
+        })),
+        (None, None, Some(cond)) => Some(ScheduleJob::Ends(EndsOptions {
+            recovered: true,
+            cond,
+            schedules,
+        })),
+        _ => None,
     }
 }
 
-/// What is demanded of each schedule, by `--cond` or by `--all`; not by both, and not by none.
-fn demand_of<'a>(matches: &ArgMatches<'a>) -> Option<Demand<'a>>
+/// What is demanded of each schedule, by one of `--cond`, `--all`, `--ends` and `--recovered`; not by two, and not by none.
+pub(crate) fn demand_of<'a>(matches: &ArgMatches<'a>) -> Option<Demand<'a>>
     ensures { Finds (IsDemand (first_of (codes "cond") (rows_of (found_of matches.now)))
-        (first_of (codes "all") (rows_of (found_of matches.now)))) result }
+        (first_of (codes "all") (rows_of (found_of matches.now)))
+        (first_of (codes "ends") (rows_of (found_of matches.now)))
+        (first_of (codes "recovered") (rows_of (found_of matches.now)))) result }
 {
-    match (value(matches, "cond"), value(matches, "all")) {
-        (Some(text), None) => Some(Demand::Cond(text)),
-        (None, Some(text)) => Some(Demand::All(text)),
+    let cond = value(matches, "cond");
+    let all = value(matches, "all");
+    let ends = value(matches, "ends");
+    match (cond, all, ends, value(matches, "recovered")) {
+        (Some(text), None, None, None) => Some(Demand::Cond(text)),
+        (None, Some(text), None, None) => Some(Demand::All(text)),
+        (None, None, Some(text), None) => Some(Demand::Ends(text)),
+        (None, None, None, Some(text)) => Some(Demand::Recovered(text)),
         _ => None,
     }
 }

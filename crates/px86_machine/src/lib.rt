@@ -60,7 +60,7 @@ pub use image_reasons::{Missing, Why};
 pub use hunt;
 pub use hunt::{
     Breach, HuntFault, Loss, Losses, Moment, NoThread, Outcome, Search, Tally, WordPair,
-    count_losses, hunt as hunt_ends, hunt_crashes, loss_of, tally,
+    count_ends, count_losses, hunt as hunt_ends, hunt_crashes, hunt_ended, loss_of, tally,
 };
 pub use workers::{Gate, MAX_SEATS, OpenGate};
 

@@ -1,5 +1,5 @@
 -- What a hunt found as text, and how many schedules break a condition.
-use Rattle.std.specs.Prelude.{ℕ, Bool, not, ◌&&◌, ◌||◌, if◌then◌else◌, Option, Some, None, List, [], ◌∷◌, ◌++◌, codes}
+use Rattle.std.specs.Prelude.{ℕ, Bool, not, ◌&&◌, ◌||◌, ◌==◌, if◌then◌else◌, Option, Some, None, List, [], ◌∷◌, ◌++◌, codes}
 use Rattle.std.specs.Fmt.{decimal}
 use Rattle.lines_layout.specs.Layouts.{NamedLines}
 use Rattle.lines_layout.specs.Names.{Text}
@@ -9,8 +9,12 @@ use Rattle.pending_images.specs.declared.total.Count.TheVariants.{More}
 use Rattle.hunt.specs.declared.loss.Breach.{Breach}
 use Rattle.hunt.specs.declared.loss.Breach.TheVariants.{Leaves, TooMany}
 use Rattle.hunt.specs.declared.loss.Moment.{Moment}
+use Rattle.hunt.specs.declared.end_counts.EndCounts.{EndCounts}
 use Rattle.hunt.specs.declared.losses.Losses.{Losses}
+use Rattle.commands.specs.declared.jobs.Demand.{Demand}
+use Rattle.commands.specs.declared.jobs.Demand.TheVariants.{All, Cond, Ends, Recovered}
 use Rattle.commands.specs.declared.jobs.HuntOptions.{HuntOptions}
+use Rattle.commands.specs.declared.status.Status.{Status}
 use Rattle.commands.specs.declared.status.Status.TheVariants.{Done, Unmet}
 use Rattle.commands.specs.ImageTexts.{candidates_text, image_text, names_shown}
 use Rattle.commands.specs.MissingTexts.{image_explained}
@@ -23,9 +27,34 @@ use Rattle.thread_jobs.specs.HuntStarts.{HuntStart}
 abbrev pub asks_steps : HuntOptions → Bool
 asks_steps options = options.show || options.as_steps
 
+-- the word of the option that asks for ends
+abbrev pub ends_word : Demand → Text
+ends_word (Recovered text) = codes "recovered"
+ends_word (Ends text) = codes "ends"
+ends_word (Cond text) = codes "ends"
+ends_word (All text) = codes "ends"
+
+-- how many of so many schedules come to an end
+abbrev pub ended_text : ℕ → ℕ → Text
+ended_text runs ended = codes "ended " ++ decimal ended ++ codes " of " ++ decimal runs ++ line_feed ∷ []
+
+-- that none of the schedules comes to an end
+abbrev pub unasked_text : Demand → Text
+unasked_text demand = ends_word demand ++ codes " asked of no state" ++ line_feed ∷ []
+
+-- what is said where nothing was found, by how many schedules come to an end, where ends are asked
+abbrev pub none_text : Demand → ℕ → Option ℕ → Text
+none_text demand runs None = codes "none" ++ line_feed ∷ []
+none_text demand runs (Some ended) = if ended == 0 then unasked_text demand else codes "none" ++ line_feed ∷ ended_text runs ended
+
+-- whether nothing was found, and something was asked
+abbrev pub none_status : Option ℕ → Status
+none_status None = Done
+none_status (Some ended) = if ended == 0 then Unmet else Done
+
 -- what is reported where nothing was found: there are no steps
-abbrev pub none_report : HuntOptions → Report
-none_report options = record { text = if options.as_steps then [] else codes "none" ++ line_feed ∷ []; status = Done }
+abbrev pub none_report : HuntOptions → ℕ → Option ℕ → Report
+none_report options runs ended = record { text = if options.as_steps then [] else none_text options.demand runs ended; status = none_status ended }
 
 -- what breaks the condition: an image, below the names of the words where they are asked for; or that there are too many candidates
 abbrev pub breach_text : Bool → NamedLines → Breach → List ℕ
@@ -76,9 +105,9 @@ abbrev pub found_text : HuntOptions → HuntStart → Found → Text
 found_text options start found = if options.as_steps then shown_text options start found.at else whole_text options start found
 
 -- what is reported of what a hunt found, or that it found nothing
-abbrev pub found_report : HuntOptions → HuntStart → Option Found → Report
-found_report options start None = none_report options
-found_report options start (Some found) = record { text = found_text options start found; status = Unmet }
+abbrev pub found_report : HuntOptions → HuntStart → Option Found → Option ℕ → Report
+found_report options start None ended = none_report options start.schedules.runs ended
+found_report options start (Some found) ended = record { text = found_text options start found; status = Unmet }
 
 -- the first schedule that breaks the condition, and the least turn after which it does
 abbrev pub first_text : Option Moment → List ℕ
@@ -88,3 +117,13 @@ first_text (Some at) = codes "first " ++ decimal at.number ++ codes " " ++ decim
 -- how many of so many schedules break the condition, and the first of them
 abbrev pub losses_text : ℕ → Losses → List ℕ
 losses_text runs losses = codes "broken " ++ decimal losses.broken ++ codes " of " ++ decimal runs ++ line_feed ∷ first_text losses.first
+
+-- the first schedule that breaks the condition at an end
+abbrev pub first_end_text : Option ℕ → List ℕ
+first_end_text None = []
+first_end_text (Some number) = codes "first " ++ decimal number ++ line_feed ∷ []
+
+-- how many of so many schedules break the condition at an end, how many come to one, and the first of those that break it
+abbrev pub ends_text : ℕ → EndCounts → List ℕ
+ends_text runs counts =
+    codes "broken " ++ decimal counts.broken ++ codes " of " ++ decimal runs ++ line_feed ∷ ended_text runs counts.ended ++ first_end_text counts.first

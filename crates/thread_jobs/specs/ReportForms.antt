@@ -2,6 +2,7 @@
 use Rattle.std.specs.Prelude.{ℕ, Option, List}
 use Rattle.lines_layout.specs.Layouts.{NamedLines}
 use Rattle.hunt.specs.Outcomes.{Observed}
+use Rattle.hunt.specs.declared.end_counts.EndCounts.{EndCounts}
 use Rattle.hunt.specs.declared.losses.Losses.{Losses}
 use Rattle.commands.specs.declared.jobs.HuntOptions.{HuntOptions}
 use Rattle.commands.specs.Serving.{Report}
@@ -14,5 +15,7 @@ pub record ReportForm : Type 0 where
   pub of_tally : NamedLines → List (Observed × ℕ) → Report
   -- how many of so many schedules break the condition, and the first of them
   pub of_losses : ℕ → Losses → Report
-  -- what a hunt found, or that it found nothing
-  pub of_hunt : HuntOptions → HuntStart → Option Found → Report
+  -- how many of so many schedules come to an end, and how many of these break the condition there
+  pub of_ends : ℕ → EndCounts → Report
+  -- what a hunt found; or that it found nothing, and where ends are asked how many schedules come to one
+  pub of_hunt : HuntOptions → HuntStart → Option Found → Option ℕ → Report

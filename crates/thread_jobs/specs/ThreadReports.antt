@@ -1,5 +1,5 @@
 -- The reports of the commands that work with threads, and what these commands may answer.
-use Rattle.std.specs.Prelude.{◌≡◌, ℕ, true, Option, option_map, Result, Ok, Err, List, [], ◌∷◌}
+use Rattle.std.specs.Prelude.{◌≡◌, ℕ, Bool, true, false, Option, Some, None, option_map, Result, Ok, Err, List, [], ◌∷◌}
 use Rattle.outcomes.specs.declared.or_no_memory.OrNoMemory.{OrNoMemory}
 use Rattle.outcomes.specs.declared.or_no_memory.OrNoMemory.TheVariants as errors
 use Rattle.workers.specs.Limits.{MayShare}
@@ -13,6 +13,8 @@ use Rattle.hunt.specs.Tallies as tallies
 use Rattle.hunt.specs.declared.fault.NoThread.{NoThread}
 use Rattle.hunt.specs.Least.{fails, least_from}
 use Rattle.hunt.specs.Crashes.{least_loss, losses_among}
+use Rattle.hunt.specs.Ends.{breaks_end, ends_among}
+use Rattle.hunt.specs.declared.end_counts.EndCounts.{EndCounts}
 use Rattle.thread_jobs.specs.declared.found.Found.{Found}
 use Rattle.thread_jobs.specs.Founds.{found_crash, found_end}
 use Rattle.thread_jobs.specs.declared.fault.LiveEnd.{LiveEnd}
@@ -29,8 +31,9 @@ use Rattle.commands.specs.declared.jobs.ScheduleJob.{ScheduleJob}
 use Rattle.commands.specs.declared.jobs.ScheduleJob.TheVariants as jobs
 use Rattle.commands.specs.declared.jobs.TallyOptions.{TallyOptions}
 use Rattle.commands.specs.declared.jobs.Demand.{Demand}
-use Rattle.commands.specs.declared.jobs.Demand.TheVariants.{Cond, All}
+use Rattle.commands.specs.declared.jobs.Demand.TheVariants.{Cond, Ends, Recovered, All}
 use Rattle.commands.specs.declared.jobs.HuntOptions.{HuntOptions}
+use Rattle.commands.specs.declared.jobs.EndsOptions.{EndsOptions}
 use Rattle.commands.specs.declared.jobs.LossesOptions.{LossesOptions}
 use Rattle.commands.specs.Faults.{missing}
 use Rattle.commands.specs.Programs.{lined_work, list_work, program_work, state_work}
@@ -53,18 +56,46 @@ tally_work form options program steps = do
 -- the text of the condition
 abbrev pub text_of : Demand → List ℕ
 text_of (Cond text) = text.now
+text_of (Ends text) = text.now
+text_of (Recovered text) = text.now
 text_of (All text) = text.now
 
--- the smallest number of the range whose schedule ends, from a state, where the condition does not hold; or the smallest, and
--- in it the least turn, after which a crash may leave what breaks the condition
+-- the smallest number of the range whose schedule comes to an end, after a crash or before the first one, where the condition does
+-- not hold
+abbrev pub end_found : Bool → HuntStart → Option Found
+end_found recovered start =
+    option_map (found_end start.schedules.plan) (least_from (breaks_end recovered start.schedules.plan start.condition start.state) start.schedules.first start.schedules.runs)
+
+-- the smallest number of the range whose schedule ends, from a state, where the condition does not hold, or comes to an end where
+-- it does not; or the smallest, and in it the least turn, after which a crash may leave what breaks the condition
 abbrev pub found_by : Demand → HuntStart → Option Found
 found_by (Cond text) start =
     option_map (found_end start.schedules.plan) (least_from (fails start.schedules.plan start.condition start.state) start.schedules.first start.schedules.runs)
+found_by (Ends text) start = end_found false start
+found_by (Recovered text) start = end_found true start
 found_by (All text) start = option_map found_crash (least_loss start.schedules.plan start.condition start.state start.schedules.first start.schedules.runs)
 
--- what is reported of what a hunt found
+-- how many of the schedules come to an end, after a crash or before the first one, and how many of these break the condition there
+abbrev pub counts_of : Bool → HuntStart → EndCounts
+counts_of recovered start = ends_among recovered start.schedules.plan start.condition start.state start.schedules.first start.schedules.runs
+
+-- how many come to an end, where ends are asked
+abbrev pub ended_of : Demand → HuntStart → Option ℕ
+ended_of (Cond text) start = None
+ended_of (Ends text) start = Some (counts_of false start).ended
+ended_of (Recovered text) start = Some (counts_of true start).ended
+ended_of (All text) start = None
+
+-- the same where none of them breaks the condition
+abbrev pub ended_by : Demand → HuntStart → Option Found → Option ℕ
+ended_by demand start None = ended_of demand start
+ended_by demand start (Some found) = None
+
+-- what is reported of what a hunt found; where ends are asked and it found nothing, also of how many schedules come to one
 abbrev pub hunt_from : ReportForm → HuntOptions → HuntStart → Report
-hunt_from form options start = form.of_hunt options start (found_by options.demand start)
+hunt_from form options start =
+    let found = found_by options.demand start in
+    form.of_hunt options start found (ended_by options.demand start found)
 
 -- what schedules come to that threads run
 abbrev pub threads_work : Report → Work Report
@@ -87,6 +118,16 @@ losses_work form options program steps = do
   start ← start_work options.all.now options.schedules program steps
   work stages.Schedules (Ok (losses_from form start))
 
+-- how many schedules come to an end, and how many of these break a condition there
+abbrev pub ends_from : ReportForm → Bool → HuntStart → Report
+ends_from form recovered start = form.of_ends start.schedules.runs (counts_of recovered start)
+
+-- tally --ends, tally --recovered
+abbrev pub ends_work : ReportForm → EndsOptions → List ℕ → List ℕ → Work Report
+ends_work form options program steps = do
+  start ← start_work options.cond.now options.schedules program steps
+  work stages.Schedules (Ok (ends_from form options.recovered start))
+
 -- the program of a live machine with the lines of its text, and the steps
 abbrev pub live_start : List ℕ → List ℕ → Work (LinedObject × List Step)
 live_start program steps = do
@@ -108,12 +149,14 @@ live_stages = stages.Machine ∷ stages.Threads ∷ stages.Journal ∷ []
 abbrev pub MayWork : ScheduleJob → Type 0
 MayWork (jobs.Tally options) = Unit {0}
 MayWork (jobs.Losses options) = Unit {0}
+MayWork (jobs.Ends options) = Unit {0}
 MayWork (jobs.Hunt options) = MayShare options.workers
 
 -- what is made of the bytes of both sources
 abbrev pub work_of : ReportForm → ScheduleJob → Sources → Work Report
 work_of form (jobs.Tally options) both = tally_work form options both.program both.steps
 work_of form (jobs.Losses options) both = losses_work form options both.program both.steps
+work_of form (jobs.Ends options) both = ends_work form options both.program both.steps
 work_of form (jobs.Hunt options) both = hunt_work form options both.program both.steps
 
 -- a command that runs schedules, on the bytes of its sources, with its report in this form

@@ -5,6 +5,7 @@ ghost use Rattle.commands.specs.Serving.{MakesReport, Serves, used};
 ghost use Rattle.thread_jobs.specs.ThreadReports.{live_command, work_command, MayWork};
 ghost use Rattle.workers.specs.Limits.{MayShare};
 
+use crate::ends_report::report_ends;
 use crate::form::ReportsSchedules;
 use crate::hunt_report::report_hunt;
 use crate::journal_form::ReportsJournals;
@@ -50,6 +51,9 @@ fn work_report<F: ReportsSchedules, R: Threads + Sync, G: Gate + Send + Sync + D
         ScheduleJob::Losses(options) => report_losses::<F, R, G>(
             rt, alloc, options, program, steps, &gate,
         ),
+        ScheduleJob::Ends(options) => report_ends::<F, R, G>(
+            rt, alloc, options, program, steps, &gate,
+        ),
         ScheduleJob::Hunt(options) => report_hunt::<F, R, G>(
             rt, alloc, options, program, steps, gate,
         ),
@@ -63,7 +67,8 @@ fn work_report<F: ReportsSchedules, R: Threads + Sync, G: Gate + Send + Sync + D
 ///
 /// What no clause says, and tests ask: the gate is told how many schedules run at most. Then the number of each schedule is
 /// reported, once before it runs and once when it has ended. A number that a worker of a hunt claims and then skips is reported
-/// once. A hunt has as many workers as were asked for, and all threads that were started have ended.
+/// once. Where a hunt of ends finds none, its schedules run once more, to count those that come to one, and the gate hears nothing
+/// of this. A hunt has as many workers as were asked for, and all threads that were started have ended.
 ///
 /// # Errors
 ///

@@ -5,7 +5,7 @@ ghost use Rattle.thread_jobs.specs.ReportForms as forms;
 use crate::found::Found;
 use crate::start::HuntStart;
 use commands::{HuntOptions, Report};
-use hunt::{Losses, Tally};
+use hunt::{EndCounts, Losses, Tally};
 use lines_layout::Layout;
 use std::alloc::{AllocError, Global};
 
@@ -22,13 +22,18 @@ pub trait ReportsSchedules {
     fn losses_report(alloc: Global, runs: u64, losses: Losses) -> Result<Report, AllocError>
         ensures { IfOk result (λ report. report ≡ reports.of_losses runs losses) };
 
-    /// The report of what a hunt found, or that it found nothing.
+    /// The report of how many of so many schedules come to an end, and how many of these break a condition there.
+    fn ends_report(alloc: Global, runs: u64, counts: EndCounts) -> Result<Report, AllocError>
+        ensures { IfOk result (λ report. report ≡ reports.of_ends runs counts) };
+
+    /// The report of what a hunt found; or that it found nothing, and where ends are asked how many schedules come to one.
     fn hunt_report(
         alloc: Global,
         options: &HuntOptions<'_>,
         start: &HuntStart,
         found: Option<&Found>,
+        ended: Option<u64>,
     ) -> Result<Report, AllocError>
         ensures { IfOk result (λ report. report
-            ≡ reports.of_hunt options.now start.now (option_copied found.entry)) };
+            ≡ reports.of_hunt options.now start.now (option_copied found.entry) ended) };
 }

@@ -1,11 +1,13 @@
 //! The text of what a hunt found.
-ghost use Rattle.std.specs.Prelude.{◌≡◌, ◌++◌, IfOk, OnOk, option_copied, string_bytes};
-ghost use Rattle.thread_jobs.specs.HuntReports.{asks_steps, behind_least, breach_text, crash_text, explained, explains_image, explanation, found_report, found_text, least_text, none_report, shown_text, whole_text};
+ghost use Rattle.std.specs.Prelude.{◌≡◌, ◌++◌, [], IfOk, OnOk, if◌then◌else◌, option_copied, string_bytes};
+ghost use Rattle.thread_jobs.specs.HuntReports.{asks_steps, behind_least, breach_text, crash_text, ends_word, explained, explains_image, explanation, found_report, found_text, least_text, none_report, none_status, none_text, shown_text, whole_text};
 
+use crate::ends_text::push_ended;
 use crate::found::{Found, steps_found, steps_to};
 use crate::start::HuntStart;
 use commands::{
-    HuntOptions, Report, Status, image_explained, push_candidates, push_image, push_names_shown,
+    Demand, HuntOptions, Report, Status, image_explained, push_candidates, push_image,
+    push_names_shown,
 };
 use hunt::{Breach, Moment};
 use images::{Count, Image};
@@ -169,14 +171,75 @@ fn found_text(
     whole_text(alloc, options, start, found)
 }
 
-/// The report where nothing was found: there are no steps.
-fn none_report(alloc: Global, options: &HuntOptions<'_>) -> Result<Report, AllocError>
-    ensures { IfOk result (λ report. report ≡ none_report options.now) }
+/// The word of the option that asks for ends.
+fn ends_word(demand: Demand<'_>) -> &'static str
+    ensures { result.now ≡ ends_word demand.entry }
 {
-    let text = if options.as_steps { "" } else { "none\n" };
+    match demand {
+        Demand::Recovered(_) => "recovered",
+        Demand::Ends(_) | Demand::Cond(_) | Demand::All(_) => "ends",
+    }
+}
+
+/// Appends what is said where nothing was found, by how many schedules come to an end, where ends are asked.
+fn push_none(
+    text: &mut String,
+    demand: Demand<'_>,
+    runs: u64,
+    ended: Option<u64>,
+) -> Result<(), AllocError>
+    ensures { OnOk result (string_bytes text.new
+        ≡ string_bytes text.old ++ none_text demand.entry runs ended) }
+{
+    match ended {
+        None => text.push_str("none\n"),
+        Some(0) => writeln!(text, "{} asked of no state", ends_word(demand)),
+        Some(ended) => {
+            text.push_str("none\n")?;
+            push_ended(text, runs, ended)
+        }
+    }
+}
+
+/// The status where nothing was found: `Unmet` where ends are asked, and no schedule comes to one.
+pub fn none_status(ended: Option<u64>) -> Status
+    ensures { result ≡ none_status ended }
+{
+    match ended {
+        Some(0) => Status::Unmet,
+        Some(_) | None => Status::Done,
+    }
+}
+
+/// The text where nothing was found: there are no steps.
+fn none_text(
+    alloc: Global,
+    options: &HuntOptions<'_>,
+    runs: u64,
+    ended: Option<u64>,
+) -> Result<String, AllocError>
+    ensures { IfOk result (λ text. string_bytes text
+        ≡ (if options.now.as_steps then [] else none_text options.now.demand runs ended)) }
+{
+    let mut text = String::new(alloc);
+    if !options.as_steps {
+        push_none(&mut text, options.demand, runs, ended)?;
+    }
+    Ok(text)
+}
+
+/// The report where nothing was found.
+fn none_report(
+    alloc: Global,
+    options: &HuntOptions<'_>,
+    runs: u64,
+    ended: Option<u64>,
+) -> Result<Report, AllocError>
+    ensures { IfOk result (λ report. report ≡ none_report options.now runs ended) }
+{
     Ok(Report {
-        text: String::from_str(alloc, text)?.into_bytes(),
-        status: Status::Done,
+        text: none_text(alloc, options, runs, ended)?.into_bytes(),
+        status: none_status(ended),
     })
 }
 
@@ -186,12 +249,13 @@ pub(crate) fn found_report(
     options: &HuntOptions<'_>,
     start: &HuntStart,
     found: Option<&Found>,
+    ended: Option<u64>,
 ) -> Result<Report, AllocError>
     ensures { IfOk result (λ report. report
-        ≡ found_report options.now start.now (option_copied found.entry)) }
+        ≡ found_report options.now start.now (option_copied found.entry) ended) }
 {
     let Some(found) = found else {
-        return none_report(alloc, options);
+        return none_report(alloc, options, start.search.range.n, ended);
     };
     Ok(Report {
         text: found_text(alloc, options, start, found)?.into_bytes(),

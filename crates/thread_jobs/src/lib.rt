@@ -11,6 +11,8 @@
 
 mod command;
 mod deal;
+mod ends_report;
+mod ends_text;
 mod fault;
 mod form;
 mod found;
@@ -31,7 +33,7 @@ mod worker;
 pub use command::{Resources, share, work};
 pub use form::ReportsSchedules;
 pub use found::{Found, steps_found, steps_to};
-pub use hunt_text::explains_image;
+pub use hunt_text::{explains_image, none_status};
 pub use journal_form::ReportsJournals;
 pub use start::HuntStart;
 pub use text_form::TextReports;

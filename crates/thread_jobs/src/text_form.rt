@@ -1,6 +1,7 @@
 //! The reports as text.
 ghost use Rattle.thread_jobs.specs.TextReports.{text_journals, text_reports};
 
+use crate::ends_text::ends_report;
 use crate::form::ReportsSchedules;
 use crate::found::Found;
 use crate::hunt_text::found_report;
@@ -10,7 +11,7 @@ use crate::losses_text::losses_report;
 use crate::start::HuntStart;
 use crate::tally_text::tally_report;
 use commands::{HuntOptions, Report};
-use hunt::{Losses, Tally};
+use hunt::{EndCounts, Losses, Tally};
 use lines_layout::Layout;
 use litmus_text::LinedObject;
 use live::Closed;
@@ -30,13 +31,18 @@ impl ReportsSchedules for TextReports {
         losses_report(alloc, runs, losses)
     }
 
+    fn ends_report(alloc: Global, runs: u64, counts: EndCounts) -> Result<Report, AllocError> {
+        ends_report(alloc, runs, counts)
+    }
+
     fn hunt_report(
         alloc: Global,
         options: &HuntOptions<'_>,
         start: &HuntStart,
         found: Option<&Found>,
+        ended: Option<u64>,
     ) -> Result<Report, AllocError> {
-        found_report(alloc, options, start, found)
+        found_report(alloc, options, start, found, ended)
     }
 }
 

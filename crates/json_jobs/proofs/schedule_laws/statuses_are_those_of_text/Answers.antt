@@ -6,6 +6,7 @@ pub returns : goal.returns
 returns c = record {
   tally = λ layout tally. refl;
   losses = λ runs losses. refl;
+  ends = λ runs counts. refl;
   hunt = hunted_same;
   live = λ lined journal s. refl;
 }

@@ -1,5 +1,5 @@
 use Rattle.hunt.proofs.EndsOfSchedules.{ends_none, ends_some}
-use Rattle.hunt.proofs.hunts.hunt_ends.Goals as goal
+use Rattle.hunt.proofs.hunts.hunt_ended.Goals as goal
 
 pub returns-clause-kept : goal.returns-clause-kept
 returns-clause-kept g c =
