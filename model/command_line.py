@@ -19,7 +19,7 @@ from model.texts import Program, steps_of
 # What an argument is: a text, a whole number with this value if it is left out, or a word alone.
 TEXT, WORD, NUMBER = {}, {"action": "store_true"}, {"type": int}
 PLAN = {"--seed": {"type": int, "default": 0}, "--length": NUMBER, "--crash-after": NUMBER}
-RUNS = {"--first": {"type": int, "default": 0}, "--runs": {"type": int, "default": 100}, "--all": TEXT}
+RUNS = {"--first": {"type": int, "default": 0}, "--runs": {"type": int, "default": 100}, "--all": TEXT, "--ends": TEXT, "--recovered": TEXT}
 QUESTIONS = {"--all": TEXT, "--ends": TEXT, "--recovered": TEXT, "--before-crash": WORD, "--states": NUMBER}
 # The commands of a program and its steps, with their options.
 OF_A_FILE = {
@@ -69,8 +69,9 @@ def main(words: list[str] | None = None, given: str | None = None) -> int:
     if options.command in OTHERS:
         return options.command(options)
     if options.command in (replay, tally, hunt) and options.length is None:
-        # A schedule that is asked about all of its turns, or any other.
-        options.length = 100 if options.command is replay or options.all is None else 1000
+        # A schedule that is asked about all of its turns or the end to which it comes, or any other.
+        asked = options.command is not replay and (options.all, options.ends, options.recovered) != (None, None, None)
+        options.length = 1000 if asked else 100
     with open(options.file, encoding="ascii") as file:
         machine = Machine(Program(file.read()))
     steps = [] if options.command in (fences, mend) else steps_of(sys.stdin.read() if given is None else given)

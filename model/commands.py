@@ -16,6 +16,7 @@ from model.mends import mend_told, moved_told
 from model.programs import SHAPES, program_lines, small_lines
 from model.rules import CANDIDATES, Step
 from model.runs import outcomes_of, runs_told, verdict_of
+from model.schedules import ends_of as ends_of_schedules
 from model.schedules import enabled_of, loss_of, outcome_text, possible_of, schedule_of, words_of
 from model.texts import step_text
 
@@ -118,6 +119,14 @@ def tally(machine: Machine, steps: list[Step], options: Namespace) -> int:
         for first in broken[:1]:
             print("first", *first)
         return 0
+    if asks_ends(options):
+        ends = [*ends_of_schedules(machine, options)]
+        broken = [number for number, holds, _ in ends if not holds]
+        print("broken", len(broken), "of", options.runs)
+        print("ended", len(ends), "of", options.runs)
+        for first in broken[:1]:
+            print("first", first)
+        return 0
     counts = {}
     for number in numbers_of(options):
         outcome = outcome_text(schedule_of(machine, options, number)[0])
@@ -127,10 +136,33 @@ def tally(machine: Machine, steps: list[Step], options: Namespace) -> int:
     return 0
 
 
+def asks_ends(options: Namespace) -> bool:
+    return (options.ends, options.recovered) != (None, None)
+
+
+def hunt_ends(machine: Machine, options: Namespace) -> int:
+    """The first schedule that comes to an end at which the condition is false, or how many come to one."""
+    ended = 0
+    for number, holds, schedule in ends_of_schedules(machine, options):
+        if not holds:
+            print("least", number)
+            for step in schedule if options.show else []:
+                print(step_text(step))
+            return 1
+        ended += 1
+    if ended:
+        print("none", f"ended {ended} of {options.runs}", sep="\n")
+    else:
+        print("ends" if options.recovered is None else "recovered", "asked of no state")
+    return int(not ended)
+
+
 def hunt(machine: Machine, steps: list[Step], options: Namespace) -> int:
     make_all(machine, steps)
     if options.all is not None:
         return hunt_all(machine, steps, options)
+    if asks_ends(options):
+        return hunt_ends(machine, options)
     condition = Condition(options.cond, machine.program)
     for number in numbers_of(options):
         ended, schedule = schedule_of(machine, options, number)

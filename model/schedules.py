@@ -60,6 +60,22 @@ def schedule_of(opening: Machine, options: Namespace, number: int) -> tuple[Mach
     return machine, steps
 
 
+def is_end(machine: Machine, after: bool) -> bool:
+    """Whether a state is an end, after a crash or before the first one: it accepts no step but a crash. The one end of a machine without
+    processors counts as both."""
+    return not enabled_of(machine) and (not machine.processors or (machine.crashes > 0) == after)
+
+
+def ends_of(opening: Machine, options: Namespace) -> Iterator[tuple[int, bool, list[Step]]]:
+    """The schedules that come to an end of which a condition is asked: their numbers, whether it is true there, and their steps."""
+    after = options.recovered is not None
+    condition = Condition(options.recovered if after else options.ends, opening.program)
+    for number in range(options.first, options.first + options.runs):
+        ended, steps = schedule_of(opening, options, number)
+        if is_end(ended, after):
+            yield number, condition.holds(ended), steps
+
+
 def loss_of(opening: Machine, options: Namespace, condition: Condition, number: int) -> tuple[str, list[Step]] | None:
     """The first state of schedule `number` in which a crash may leave what breaks a condition: what does, and the steps
     to the state; or nothing. Every image of every state is looked at."""

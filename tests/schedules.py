@@ -156,12 +156,51 @@ def of_crashes(px86: Px86, number: int) -> Checks:
         yield f"{condition}: tally", like_model(px86, ["tally", *plan, text])
 
 
+def of_ends(px86: Px86, number: int) -> Checks:
+    """The first schedule that comes to an end which breaks a condition, by any count of workers, and how many come to one: before a
+    crash, after one, and where the given steps crash. Some schedules are cut before their ends."""
+    program = model("program", str(number)).out
+    text = px86.keep("text.litmus", program)
+    name = program.partition("\nline ")[2].split()[0]
+    for condition in f"persisted {name} < 2", f"persisted {name} != 1 or reg 0 rax < 2", f"coherent {name} < 0", "reg 0 rax >= 0":
+        for asked, crash, steps in ("--ends", [], ""), ("--ends", ["--crash-after", "9"], ""), ("--recovered", ["--crash-after", "12"], ""), ("--recovered", [], "crash\n"):
+            for length in "20", "60":
+                plan = ["--seed", str(number), "--length", length, "--first", str(number), "--runs", "25", *crash, asked, condition, text]
+                case = f"{condition}: {asked} {' '.join(crash)} {steps.strip()} {length}"
+                yield f"{case}: tally", like_model(px86, ["tally", *plan], steps)
+                words = ["hunt", *plan, "--show"]
+                wanted = model(*words, given=steps)
+                for workers in WORKERS:
+                    yield f"{case}: {workers} workers", wrong_run(px86(*words, "--workers", workers, given=steps), wanted.status, wanted.out)
+
+
+def end_is_of_a_run(px86: Px86, path: str, asked: str, crash: list[str], condition: str) -> Checks:
+    """What every run keeps at its ends, no schedule breaks at one; and after the steps that a hunt shows `check` reports the same end."""
+    text = f"{path}.litmus"
+    checked = px86("check", asked, condition, text)
+    done = px86("hunt", asked, condition, *crash, "--runs", "400", "--show", text)
+    found = done.out.startswith("least ")
+    yield "check holds and a hunt finds", "check holds" if found and checked.status == 0 else ""
+    if found:
+        again = px86("check", asked, condition, "--show", text, given=behind_first_line(done))
+        yield "behind its steps the run to the end has none", unlike(again.out.splitlines()[1:], ["steps 0"])
+
+
 def by_workers(px86: Px86, words: list[str]) -> Checks:
     """A report of the model, by each count of workers."""
     wanted = model(*words)
     for workers in WORKERS:
         yield workers, wrong_run(px86(*words, "--workers", workers), wanted.status, wanted.out)
 
+
+# Ends of examples: some are broken, and some are kept.
+ENDS = [
+    *(("examples/queue", "--recovered", ["--crash-after", str(turn)], "reg 0 rax = 0 or reg 0 rbx = 7") for turn in range(2, 12)),
+    *(("examples/mended-queue", "--recovered", ["--crash-after", str(turn)], "persisted flag = 0 or persisted item = 7") for turn in (3, 7)),
+    *(("examples/queue", "--recovered", ["--crash-after", str(turn)], "persisted flag = 0 or persisted item = 7") for turn in range(2, 12)),
+    *(("examples/store-buffering", "--ends", [], condition) for condition in ("reg 0 rax = 1 or reg 1 rax = 1", "reg 0 rax = 1", "persisted x = 1")),
+    *(("examples/lock", "--ends", [], condition) for condition in ("persisted count = 2", "persisted count = 1")),
+]
 
 HUNTS = [
     # The lock's counter is below 2 where a processor has still to write: found after some tries.
@@ -349,6 +388,10 @@ def cases() -> Iterator[Case]:
     """All cases."""
     for number in range(1, 7):
         yield Case(f"hunts of crashes of program {number}", of_crashes, number)
+    for number in range(1, 13):
+        yield Case(f"ends of program {number}", of_ends, number)
+    for path, asked, crash, condition in ENDS:
+        yield Case(f"an end of a run: {path} {asked} {condition} {' '.join(crash)}", end_is_of_a_run, path, asked, crash, condition)
     yield Case("2,128 enabled steps", many_enabled)
     for kind, asks in EXAMPLES.items():
         yield from (Case(f"{path}.{kind}", asks, path) for path in named(kind))

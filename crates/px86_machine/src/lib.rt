@@ -59,7 +59,7 @@ pub use image_reasons::{Missing, Why};
 // Many schedules, by threads; what is known of their searches is in `hunt::laws`.
 pub use hunt;
 pub use hunt::{
-    Breach, HuntFault, Loss, Losses, Moment, NoThread, Outcome, Search, Tally, WordPair,
+    Breach, EndCounts, HuntFault, Loss, Losses, Moment, NoThread, Outcome, Search, Tally, WordPair,
     count_ends, count_losses, hunt as hunt_ends, hunt_crashes, hunt_ended, loss_of, tally,
 };
 pub use workers::{Gate, MAX_SEATS, OpenGate};
