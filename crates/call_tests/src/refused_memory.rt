@@ -8,7 +8,10 @@ use crate::sessions::{go, is_attached, opened, turns};
 use crate::states::are_same;
 use commands::Metered;
 use debugger::{Halt, Session, WordWatch};
-use hunt::{Losses, Moment, Search, Tally, count_losses, hunt, hunt_crashes, tally};
+use hunt::{
+    EndCounts, Losses, Moment, Search, Tally, count_ends, count_losses, hunt, hunt_crashes,
+    hunt_ended, tally,
+};
 use images::{Comparison, Cond, Image, ImageFault, Operand, count, list, products};
 use isa::Object;
 use lines_layout::WordId;
@@ -282,6 +285,38 @@ fn losses_are_counted(rt: HostRuntime) -> Result<(), Fail> {
     Ok(())
 }
 
+/// Whether three schedules come to their ends, where the write has persisted, and the condition is false.
+fn counts_of_ends<R: Threads + Eprint + Sync>(
+    rt: &R,
+    alloc: Global,
+    search: &Search,
+) -> Option<bool> {
+    let gate = Counting::new();
+    refuse(rt);
+    let answer = count_ends(rt, alloc, search, false, &gate);
+    spare(rt);
+    let counts = gate.found(rt, answer)?;
+    let wanted = EndCounts {
+        ended: 3,
+        broken: 3,
+        first: Some(0),
+    };
+    Some(counts == wanted)
+}
+
+#[test]
+fn ends_are_counted(rt: HostRuntime) -> Result<(), Fail> {
+    let alloc = rt.alloc();
+    let search = search(alloc, 3)?;
+    let counts = [
+        counts_of_ends(&rt, alloc, &search),
+        counts_of_ends(&rt, alloc, &search),
+    ];
+    drop(search);
+    assert!(rt; one_is_right(counts));
+    Ok(())
+}
+
 /// How often a worker that is held looks at the count, which takes about a thousandth of a second.
 const LOOKS: u32 = 1_000_000;
 
@@ -345,6 +380,16 @@ fn hunts_of_crashes<R: Threads + Eprint>(rt: &R, alloc: Global, search: &Search)
     when_all_ended(&held, is_right)
 }
 
+/// The same of a hunt of ends: each schedule comes to one.
+fn hunts_of_ends<R: Threads + Eprint>(rt: &R, alloc: Global, search: &Search) -> Option<bool> {
+    let (held, gate) = held_gate(alloc)?;
+    refuse(rt);
+    let answer = hunt_ended(rt, alloc, search, false, 2, gate);
+    spare(rt);
+    let is_right = found(rt, answer).map(|least| least == Some(0));
+    when_all_ended(&held, is_right)
+}
+
 #[test]
 fn hunters_end_before_the_answer(rt: HostRuntime) -> Result<(), Fail> {
     let alloc = rt.alloc();
@@ -362,6 +407,19 @@ fn hunters_of_crashes_end_before_the_answer(rt: HostRuntime) -> Result<(), Fail>
     let hunts = [
         hunts_of_crashes(&rt, alloc, &search),
         hunts_of_crashes(&rt, alloc, &search),
+    ];
+    drop(search);
+    assert!(rt; one_is_right(hunts));
+    Ok(())
+}
+
+#[test]
+fn hunters_of_ends_end_before_the_answer(rt: HostRuntime) -> Result<(), Fail> {
+    let alloc = rt.alloc();
+    let search = search(alloc, 4)?;
+    let hunts = [
+        hunts_of_ends(&rt, alloc, &search),
+        hunts_of_ends(&rt, alloc, &search),
     ];
     drop(search);
     assert!(rt; one_is_right(hunts));

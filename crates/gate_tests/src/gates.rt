@@ -5,7 +5,9 @@ ghost use Rattle.std.specs.Prelude.{◌≡◌, true};
 ghost use Rattle.thread_jobs.specs.ThreadReports.{MayWork};
 ghost use Rattle.workers.specs.Limits.{MayShare};
 
-use commands::{Demand, HuntOptions, LossesOptions, Metered, ScheduleJob, TallyOptions};
+use commands::{
+    Demand, EndsOptions, HuntOptions, LossesOptions, Metered, ScheduleJob, TallyOptions,
+};
 use schedule::Plan;
 use std::alloc::{AllocError, Global};
 use std::sync::atomic::{AtomicU64, Ordering};
@@ -405,6 +407,13 @@ fn each_schedule_of_a_tally_is_reported(rt: HostRuntime) {
         schedules: MANY,
     });
     assert!(rt; reports_each_of_many(&rt, rt.alloc(), &losses, "broken 0 of 300\n"));
+    let ends = ScheduleJob::Ends(EndsOptions {
+        recovered: false,
+        cond: PERSISTED,
+        schedules: MANY,
+    });
+    let counted = "broken 0 of 300\nended 300 of 300\n";
+    assert!(rt; reports_each_of_many(&rt, rt.alloc(), &ends, counted));
 }
 
 #[test]
@@ -419,6 +428,13 @@ fn each_schedule_of_a_hunt_is_reported(rt: HostRuntime) {
         explains_image: false,
     };
     assert!(rt; reports_each_of_many(&rt, rt.alloc(), &ScheduleJob::Hunt(ends), "none\n"));
+    // Those that come to their ends run again to be counted, which is not reported.
+    let ended = HuntOptions {
+        demand: Demand::Ends(PERSISTED),
+        ..ends
+    };
+    let counted = "none\nended 300 of 300\n";
+    assert!(rt; reports_each_of_many(&rt, rt.alloc(), &ScheduleJob::Hunt(ended), counted));
     let images = HuntOptions {
         demand: Demand::All(WRITTEN),
         ..ends
