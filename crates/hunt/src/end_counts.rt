@@ -5,11 +5,12 @@ ghost use Rattle.schedule.specs.Ranges.{max_schedules};
 ghost use Rattle.hunt.specs.Ends.{both_ends, breaks_end, comes_to_end, ends_in, one_end, AreEnds};
 
 use crate::end_state::is_end;
+use crate::last_state::run_to_last;
 use crate::runs::{Counting, all_of};
 use crate::search::Search;
 use images::holds;
-use machine::{Machine, View};
-use schedule::{Range, run_plan};
+use machine::Machine;
+use schedule::Range;
 use std::alloc::{AllocError, Global};
 use std::thread::Threads;
 use workers::Gate;
@@ -63,8 +64,7 @@ fn counted(search: &Search, recovered: bool, own: &mut Machine, number: u64) -> 
         (breaks_end recovered search.now.plan search.now.cond search.now.machine number) number }
     ensures programs { AreSiblings own.new search.now.machine }
 {
-    own.restore(&search.machine);
-    run_plan(own, &search.plan, number);
+    run_to_last(search, own, number);
     let view = own.view();
     let ended = is_end(&view, recovered);
     let met = holds(&search.cond, &view);

@@ -235,7 +235,7 @@ fn first_broken_end<R: Threads, G: Gate + Send + Sync + Drop + 'static>(
     ensures { IfOk result (λ found. found ≡ least_broken_end recovered search.now) }
 {
     match least_found(rt, alloc, search, Asked::Ends(recovered), workers, gate)? {
-        Some(found) => Ok(Some(found.number)),
+        Some(Found { number, .. }) => Ok(Some(number)),
         None => Ok(None),
     }
 }

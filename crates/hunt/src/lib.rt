@@ -32,6 +32,7 @@ mod errand;
 mod fault;
 mod found;
 mod hunts;
+mod last_state;
 pub mod laws;
 mod least_turn;
 mod loss;

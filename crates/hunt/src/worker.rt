@@ -13,13 +13,13 @@ ghost use Rattle.hunt.specs.Returns.{IsReady, Worked};
 use crate::end_state::is_end;
 use crate::errand::Returned;
 use crate::found::{Found, lesser};
+use crate::last_state::run_to_last;
 use crate::least_turn::loss_on;
 use crate::search::{Asked, Search, Target};
 use crate::seats::{Board, Seat};
 use crate::verdict::Verdict;
 use images::holds;
 use machine::Machine;
-use schedule::run_plan;
 use std::alloc::{AllocError, Global};
 use workers::Gate;
 
@@ -29,8 +29,7 @@ fn holds_at_end(search: &Search, own: &mut Machine, number: u64) -> bool
     ensures fails { result ≡ not (fails search.now.plan search.now.cond search.now.machine number) }
     ensures programs { AreSiblings own.new search.now.machine }
 {
-    own.restore(&search.machine);
-    run_plan(own, &search.plan, number);
+    run_to_last(search, own, number);
     holds(&search.cond, &own.view())
 }
 
@@ -41,8 +40,7 @@ fn holds_if_ended(search: &Search, recovered: bool, own: &mut Machine, number: u
     ensures breaks { result ≡ not (breaks_end recovered search.now.plan search.now.cond search.now.machine number) }
     ensures programs { AreSiblings own.new search.now.machine }
 {
-    own.restore(&search.machine);
-    run_plan(own, &search.plan, number);
+    run_to_last(search, own, number);
     let view = own.view();
     let ended = is_end(&view, recovered);
     let met = holds(&search.cond, &view);
@@ -73,7 +71,8 @@ fn found_on(
             if holds_if_ended(&target.search, recovered, own, number) {
                 Ok(None)
             } else {
-                Ok(Some(Found { number, loss: None }))
+                let found = Found { number, loss: None };
+                Ok(Some(found))
             }
         }
         Asked::Crashes => {
