@@ -284,16 +284,24 @@ pub record AreMendOptions (rows : List Row) (options : MendOptions) : Type 0 whe
 
 -- What `tally` is asked of its schedules, by the texts of `--all`, `--ends` and `--recovered`: how they end, where none of these is
 -- given; the losses by the condition of the first, or the ends to which they come by that of another, where it alone is.
-abbrev pub IsTallyOf : Option Text → Option Text → Option Text → List Row → ScheduleJob → Type 0
-IsTallyOf None None None rows (schedules.Tally options) = AreSchedules rows options
-IsTallyOf (Some text) None None rows (schedules.Losses options) = (text ≡ options.all.now) × AreSchedules rows options.schedules
-IsTallyOf None (Some text) None rows (schedules.Ends options) = (text ≡ options.cond.now) × (options.recovered ≡ false) × AreSchedules rows options.schedules
-IsTallyOf None None (Some text) rows (schedules.Ends options) = (text ≡ options.cond.now) × (options.recovered ≡ true) × AreSchedules rows options.schedules
-IsTallyOf _ _ _ _ _ = ⊥
+abbrev pub IsTallyOf : Option Text → Option Text → Option Text → ScheduleJob → Type 0
+IsTallyOf None None None (schedules.Tally options) = ⊤
+IsTallyOf (Some text) None None (schedules.Losses options) = text ≡ options.all.now
+IsTallyOf None (Some text) None (schedules.Ends options) = (text ≡ options.cond.now) × (options.recovered ≡ false)
+IsTallyOf None None (Some text) (schedules.Ends options) = (text ≡ options.cond.now) × (options.recovered ≡ true)
+IsTallyOf _ _ _ _ = ⊥
 
--- A parse of `tally` found that it is asked this.
+-- the schedules that a job runs
+abbrev pub schedules_run : ScheduleJob → TallyOptions
+schedules_run (schedules.Tally options) = options
+schedules_run (schedules.Losses options) = options.schedules
+schedules_run (schedules.Ends options) = options.schedules
+schedules_run (schedules.Hunt options) = options.schedules
+
+-- A parse of `tally` found that it is asked this, of these schedules.
 abbrev pub IsTallyJob : List Row → ScheduleJob → Type 0
-IsTallyJob rows job = IsTallyOf (first_of (codes "all") rows) (first_of (codes "ends") rows) (first_of (codes "recovered") rows) rows job
+IsTallyJob rows job =
+    IsTallyOf (first_of (codes "all") rows) (first_of (codes "ends") rows) (first_of (codes "recovered") rows) job × AreSchedules rows (schedules_run job)
 
 -- A task is made of something with the property.
 abbrev pub IsMadeOf : {A : Type 0} → (A → Task) → (A → Type 0) → Task → Type 0
