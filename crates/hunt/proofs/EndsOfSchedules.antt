@@ -1,11 +1,12 @@
 -- Ends to which schedules come: that runs reach them, and counts of them, put together.
-use Rattle.std.proofs.Common.{◌≡◌, ◌↔◌, ℕ, zero, suc, ◌+◌, ◌<◌, ◌≤◌, Bool, true, false, true≢false, Option, Some, None, Result, Ok, Err, List, [], ◌∷◌, ◌++◌, length, refl, sym, ap, ap₂, ◌∙◌, subst, arith}
+use Rattle.std.proofs.Common.{◌≡◌, ◌↔◌, ℕ, zero, suc, ◌+◌, ◌<◌, ◌≤◌, Bool, true, false, true≢false, cond, Option, Some, None, Result, Ok, Err, List, [], ◌∷◌, ◌++◌, length, refl, sym, ap, ap₂, ◌∙◌, subst, arith}
 use Rattle.std.specs.Prelude.{◌&&◌, ◌==◌, not, count_by, IfOk, IfSome, if◌then◌else◌, option_map}
 use Rattle.std.specs.List.{range_with_len, list_any}
 use Rattle.std.specs.Option.{option_or}
 use Rattle.std.proofs.lemmas.Bool.{and_parts, eqb-true}
 use Rattle.std.proofs.lemmas.List.FromFn.{length-range_with_len}
-use Rattle.std.proofs.lemmas.List.Sums.{count_by-le-length}
+use Rattle.std.proofs.lemmas.List.Sums.{count_by-le-length, sum_by-append}
+use Rattle.rayon.specs.Shown.{run-append}
 use Rattle.machine.specs.State.{State}
 use Rattle.machine.specs.Steps.{End}
 use Rattle.persist_buffer.specs.declared.entry.PendingEntry.{PendingEntry}
@@ -118,15 +119,8 @@ module _ (recovered : Bool) (plan : Plan) (start : State) where
 -- ---- counts
 
 counts_split : (test : ℕ → Bool) (first a b : ℕ) → count_by test (range_with_len first (a + b)) ≡ count_by test (range_with_len first a) + count_by test (range_with_len (first + a) b)
-counts_split test first zero b =
-    let e : 0 + b ≡ b = omega arith in let g : first ≡ first + 0 = omega arith in
-    ap₂ (λ m n. count_by test (range_with_len m n)) g e
-counts_split test first (suc a) b =
-    let e : suc a + b ≡ suc (a + b) = omega arith in let g : (first + 1) + a ≡ first + suc a = omega arith in
-    let here : ℕ = if test first then 1 else 0 in
-    ap (λ n. count_by test (range_with_len first n)) e
-    ∙ ap (λ n. here + n) (counts_split test (first + 1) a b ∙ ap (λ m. count_by test (range_with_len (first + 1) a) + count_by test (range_with_len m b)) g)
-    ∙ omega arith
+counts_split test first a b =
+    ap (count_by test) (sym (run-append first a b)) ∙ sum_by-append (λ k. cond (test k) 1 0) (range_with_len first a) (range_with_len (first + a) b)
 
 few_counted : (test : ℕ → Bool) (first n : ℕ) → count_by test (range_with_len first n) ≤ n
 few_counted test first n =
