@@ -227,7 +227,7 @@ pub(crate) const LENGTH: CommandOption = number!(
     "length",
     "N",
     Bound::Short,
-    "How many turns one has at most [1000 with --all, otherwise 100]"
+    "How many turns one has at most [1000 with --all, --ends or --recovered, else 100]"
 );
 
 /// Of a plan of schedules.

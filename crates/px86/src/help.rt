@@ -92,7 +92,7 @@ Example:
 pub(crate) const REPLAYS: &str = "\
 Schedules are those of `px86 tally` and `px86 hunt`: --number says which, from 0. Where its number
 comes from a hunt or a tally, give the same --seed, --length, --crash-after and --lazy. Where --length
-was left out, a number of a hunt or tally by --all, --ends or --recovered is given here with --length 1000. The report is
+was left out, a number by --all, --ends or --recovered is given here with --length 1000. The report is
 its steps, one a line, to be made after those that were given. Whether they break anything is not asked.
 
 Example, with no steps before the schedule:
@@ -232,14 +232,14 @@ after each. The report is `none`, or of the first schedule and the least turn of
   turn T
   image V ..         the first image that breaks the condition, or
   candidates more    where there are too many to list
-To `px86 replay` give NUMBER with the same --seed, --length, --crash-after and --lazy, and with
---length 1000 where none was given, also of a number that --ends or --recovered found.
 With --cond it is asked of the state at the end of each schedule alone, and of no image: the report
 is `least NUMBER` or `none`.
-With --ends it is asked of the ends of `px86 check` to which schedules come: each processor has nothing
-left to do, and nothing is pending. Behind `none` a line `ended N of K` says how many come to one; if none
-does, the report is `ends asked of no state`, and the status 1: give a higher --length. With --recovered
-it is asked of ends after a crash, of --crash-after T or of the given steps.
+With --ends it is asked where that state is an end, as of `px86 check`: each processor has nothing left
+to do, and nothing is pending. Below `none` a line `ended N of K` says how many schedules come to one. If
+none does, the report is `ends asked of no state`, and the status 1: give a higher --length.
+With --recovered it is asked of ends after a crash, of --crash-after T or of the given steps.
+To `px86 replay` give NUMBER with the same --seed, --length, --crash-after and --lazy, and with
+--length 1000 where none was given; of --cond with none.
 
 With --lazy no step persists or settles. What such a step leaves could be left before it, so more of the
 turns are of the program. But what is pending stays: there are more candidates, and what finds no room
