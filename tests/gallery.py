@@ -245,11 +245,34 @@ NOT_JOINED = [
     ("a job of a hunt that wrote nothing is seen", "no report in killed", "2 none killed"),
     ("a job of a tally that wrote nothing is seen", "no report in killed", "2 tally killed"),
     ("a report that is not there is seen", "2 reports of 3 ranges", "3 none none"),
+    ("a range without an end is seen", "no report in unasked", "2 none unasked"),
 ]
 
 
+# Reports of ends, and what they are together.
+JOINED = [
+    ("counts of ends", "tally-1 tally-2 tally-1", 0, "broken 2 of 23\nended 15 of 23\nfirst 14\n"),
+    ("ends that keep a condition", "hunt-1 hunt-2", 0, "none\nended 9 of 15\n"),
+    ("an end that breaks it", "hunt-1 least", 1, "least 16\n"),
+]
+ENDS = {
+    "tally-1": "broken 0 of 8\nended 5 of 8\n",
+    "tally-2": "broken 2 of 7\nended 5 of 7\nfirst 14\n",
+    "hunt-1": "none\nended 8 of 8\n",
+    "hunt-2": "none\nended 1 of 7\n",
+    "least": "least 16\n",
+}
+
+
+def joined_ends(px86: Px86, names: str, status: int, report: str) -> Checks:
+    for name, text in ENDS.items():
+        px86.keep(name, text)
+    done = run([f"{TOP}/examples/many-machines/join", str(len(names.split())), *names.split()], cwd=px86.folder)
+    yield "", wrong_run(done, status, report)
+
+
 def not_joined(px86: Px86, said: str, words: str) -> Checks:
-    for name, text in {"fences": "all holds\n", "none": "none\n", "killed": "", "tally": "outcome 3 x=1/1\n"}.items():
+    for name, text in {"fences": "all holds\n", "none": "none\n", "killed": "", "tally": "outcome 3 x=1/1\n", "unasked": "ends asked of no state\n"}.items():
         px86.keep(name, text)
     done = run([f"{TOP}/examples/many-machines/join", *words.split()], cwd=px86.folder)
     yield "", wrong_run(done, 2, "", f"join: {said}\n")
@@ -264,3 +287,4 @@ def cases() -> Iterator[Case]:
     yield Case("files and rows", files)
     yield from (Case(f"it is seen that {name}", broken_parallel, name) for name in BROKEN)
     yield from (Case(name, not_joined, *row) for name, *row in NOT_JOINED)
+    yield from (Case(f"reports are put together: {name}", joined_ends, *row) for name, *row in JOINED)
