@@ -13,7 +13,7 @@ use Rattle.thread_jobs.specs.declared.found.Found.{Found}
 use Rattle.thread_jobs.specs.Founds.{steps_found, steps_to}
 use Rattle.thread_jobs.specs.HuntReports.{explains_image, none_status}
 use Rattle.thread_jobs.specs.HuntStarts.{HuntStart}
-use Rattle.json_texts.specs.Objects.{Field, Tree, header, null, num, nums, obj}
+use Rattle.json_texts.specs.Objects.{Field, Tree, header, null, num, nums, obj, or_null}
 use Rattle.json_texts.specs.ImageData.{candidates_data, names_data}
 use Rattle.json_texts.specs.ReasonData.{explained_data}
 use Rattle.json_texts.specs.SourceMaps.{SourceMap}
@@ -77,16 +77,18 @@ found_explained start (Some found) = breach_explained start found.at found.breac
 abbrev pub explained : HuntOptions → HuntStart → Option Found → Tree
 explained options start found = if explains_image options then found_explained start found else null
 
--- how many of so many schedules come to an end, where ends are asked and no schedule was found
-abbrev pub ended_fields : ℕ → Option ℕ → List Field
-ended_fields runs None = (codes "ended", null) ∷ (codes "of", null) ∷ []
-ended_fields runs (Some ended) = (codes "ended", num ended) ∷ (codes "of", num runs) ∷ []
+-- of how many schedules it is told how many come to an end
+abbrev pub of_data : ℕ → Option ℕ → Tree
+of_data runs None = null
+of_data runs (Some ended) = num runs
 
--- the names of the words, what explains the image, what a hunt found, and how many schedules come to an end
+-- the names of the words, what explains the image, how many schedules come to an end, where ends are asked and no schedule was found,
+-- and what a hunt found
 abbrev pub hunt_data : HuntOptions → HuntStart → Option Found → Option ℕ → Tree
 hunt_data options start found ended =
     obj (header (codes "hunt") ++ (codes "words", names_data start.object.layout)
-    ∷ (codes "explained", explained options start found) ∷ found_fields start found ++ ended_fields start.schedules.runs ended)
+    ∷ (codes "explained", explained options start found) ∷ (codes "ended", or_null num ended)
+    ∷ (codes "of", of_data start.schedules.runs ended) ∷ found_fields start found)
 
 -- whether it found nothing, and something was asked
 abbrev pub hunt_status : Option Found → Option ℕ → Status

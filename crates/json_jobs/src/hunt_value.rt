@@ -4,7 +4,7 @@ ghost use Rattle.image_reasons.specs.Reasons.{missing_after, missing_found};
 ghost use Rattle.thread_jobs.specs.Founds.{steps_to};
 ghost use Rattle.json_texts.specs.Objects.{GetsFields, IsJsonOf};
 ghost use Rattle.json_texts.specs.StepLines.{step_lines_data};
-ghost use Rattle.json_jobs.specs.HuntData.{breach_explained, breach_fields, ended_fields, explained, found_fields, hunt_data, hunt_report, hunt_status, image_explained, least_fields, no_turn, none_fields};
+ghost use Rattle.json_jobs.specs.HuntData.{breach_explained, breach_fields, explained, found_fields, hunt_data, hunt_report, hunt_status, image_explained, least_fields, no_turn, none_fields, of_data};
 
 use commands::{HuntOptions, Report, Status};
 use hunt::{Breach, Moment};
@@ -109,22 +109,14 @@ fn put_found(
     }
 }
 
-/// Puts how many of so many schedules come to an end, where ends are asked and no schedule was found.
-fn put_ended(
-    fields: &mut Fields,
-    alloc: Global,
-    runs: u64,
-    ended: Option<u64>,
-) -> Result<(), AllocError>
-    ensures { OnOk result (GetsFields fields.old.entries fields.new.entries
-        (ended_fields runs ended)) }
+/// Of how many schedules it is told how many come to an end.
+fn of_value(runs: u64, ended: Option<u64>) -> Value
+    ensures { IsJsonOf (of_data runs ended) result }
 {
-    put(fields, alloc, "ended", number_or_null(ended))?;
-    let of = match ended {
+    match ended {
         Some(_) => Value::from(runs),
         None => Value::Null,
-    };
-    put(fields, alloc, "of", of)
+    }
 }
 
 /// The writes that are missing in the image that breaks the condition.
@@ -188,7 +180,8 @@ fn explained_or_null(
     }
 }
 
-/// The names of the words, what explains the image, what a hunt found, and how many schedules come to an end.
+/// The names of the words, what explains the image, how many schedules come to an end, where ends are asked and no schedule was
+/// found, and what a hunt found.
 fn hunt_value(
     alloc: Global,
     options: &HuntOptions<'_>,
@@ -204,8 +197,10 @@ fn hunt_value(
     put(&mut fields, alloc, "words", words)?;
     let explained = explained_or_null(alloc, options, start, found)?;
     put(&mut fields, alloc, "explained", explained)?;
+    put(&mut fields, alloc, "ended", number_or_null(ended))?;
+    let of = of_value(start.search.range.n, ended);
+    put(&mut fields, alloc, "of", of)?;
     put_found(&mut fields, alloc, start, found)?;
-    put_ended(&mut fields, alloc, start.search.range.n, ended)?;
     Ok(Value::from(fields))
 }
 
