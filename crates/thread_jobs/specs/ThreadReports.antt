@@ -120,7 +120,8 @@ losses_work form options program steps = do
 
 -- how many schedules come to an end, and how many of these break a condition there
 abbrev pub ends_from : ReportForm → Bool → HuntStart → Report
-ends_from form recovered start = form.of_ends start.schedules.runs (counts_of recovered start)
+ends_from form recovered start =
+    form.of_ends start.schedules.runs (ends_among recovered start.schedules.plan start.condition start.state start.schedules.first start.schedules.runs)
 
 -- tally --ends, tally --recovered
 abbrev pub ends_work : ReportForm → EndsOptions → List ℕ → List ℕ → Work Report
