@@ -15,7 +15,7 @@ from collections.abc import Iterator
 from tests.examples import Example
 from tests.harness import TOP, Case, Checks, Done, Px86, model, read, run, unlike, wrong_end, wrong_run
 
-AT_LEAST = {"": 655}
+AT_LEAST = {"": 2287}
 NEEDS_PROGRAM = True
 WORKERS = "1", "2", "8"
 
@@ -174,6 +174,19 @@ def of_ends(px86: Px86, number: int) -> Checks:
                     yield f"{case}: {workers} workers", wrong_run(px86(*words, "--workers", workers, given=steps), wanted.status, wanted.out)
 
 
+def partly_ended(px86: Px86, path: str, words: list[str], lengths: list[str]) -> Checks:
+    """Of some schedules that are cut at a turn a part has come to an end, and those alone are asked about. (Where no instruction jumps, as
+    in the programs without a meaning, all take as many turns.)"""
+    ended = set()
+    for length in lengths:
+        plan = ["--seed", "3", "--runs", "60", "--length", length, *words, f"{path}.litmus"]
+        told = px86("tally", *plan)
+        ended.add(told.out.splitlines()[1].split()[1])
+        yield f"{length}: tally", like_model(px86, ["tally", *plan])
+        yield from ((f"{length}: hunt, {it} workers", wrong) for it, wrong in by_workers(px86, ["hunt", *plan, "--show"]))
+    yield "at some length a part of them", "" if ended - {"0", "60"} else "all or none"
+
+
 def end_is_of_a_run(px86: Px86, path: str, asked: str, crash: list[str], condition: str) -> Checks:
     """What every run keeps at its ends, no schedule breaks at one; and after the steps that a hunt shows `check` reports the same end."""
     text = f"{path}.litmus"
@@ -200,6 +213,13 @@ ENDS = [
     *(("examples/queue", "--recovered", ["--crash-after", str(turn)], "persisted flag = 0 or persisted item = 7") for turn in range(2, 12)),
     *(("examples/store-buffering", "--ends", [], condition) for condition in ("reg 0 rax = 1 or reg 1 rax = 1", "reg 0 rax = 1", "persisted x = 1")),
     *(("examples/lock", "--ends", [], condition) for condition in ("persisted count = 2", "persisted count = 1")),
+]
+
+PARTLY_ENDED = [
+    ("examples/lock", ["--ends", "persisted count = 2"], ["24", "30", "33", "36", "40"]),
+    ("examples/lock", ["--ends", "reg 1 rbx = 2"], ["28", "30", "33"]),
+    ("examples/queue", ["--recovered", "reg 0 rax = 0 or reg 0 rbx = 7", "--crash-after", "6"], ["9", "10", "11"]),
+    ("examples/queue", ["--recovered", "reg 0 rax = 1", "--crash-after", "6"], ["10", "11"]),
 ]
 
 HUNTS = [
@@ -392,6 +412,7 @@ def cases() -> Iterator[Case]:
         yield Case(f"ends of program {number}", of_ends, number)
     for path, asked, crash, condition in ENDS:
         yield Case(f"an end of a run: {path} {asked} {condition} {' '.join(crash)}", end_is_of_a_run, path, asked, crash, condition)
+    yield from (Case(f"partly ended: {path} {' '.join(words)}", partly_ended, path, words, lengths) for path, words, lengths in PARTLY_ENDED)
     yield Case("2,128 enabled steps", many_enabled)
     for kind, asks in EXAMPLES.items():
         yield from (Case(f"{path}.{kind}", asks, path) for path in named(kind))
