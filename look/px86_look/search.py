@@ -18,7 +18,7 @@ VALUES = re.compile(r"(?:(?:all|ends|recovered) fails|image)((?: \d+)*)")
 # What --explain-image adds: a crash of the run, the words and values of what it or the last state left, and lines of what is missing.
 CRASH = re.compile(r"crash (\d+)")
 IMAGE = re.compile(r"image((?: \S+ \d+)*)")
-SAID = re.compile(r"missing |with |none of these ")
+SAID = re.compile(r"missing |with |none of these |nor is any set |of sets of these ")
 # A missing write, and not that none is, nor how many others are.
 IS_MISSING = re.compile(r"missing (?!none$|too \d+$)")
 PUT = re.compile(r"put (.+) behind line (\d+)")

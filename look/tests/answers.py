@@ -245,7 +245,7 @@ EXPLAINED = (
     ("guide/append-unfenced", "all", CONDITION, ()),
     ("guide/append-unfenced", "recovered", RECOVERED, ()),
     ("guide/append-unfenced", "all", "not coherent tail = 1 or coherent a = 11 and coherent b = 12", ()),
-    ("guide/append-unfenced", "ends", "persisted a = 11", ()),
+    ("guide/append-unfenced", "ends", "persisted a = 12", ()),
     ("guide/append-unfenced", "recovered", RECOVERED, ("exec 0", "drain 0 0")),
     ("every-run/flag-cleared-early", "recovered", "coherent a = 3 and coherent b = 3 or coherent a = 4 and coherent b = 4", ()),
     (TWICE, "recovered", "coherent y = 2 and coherent x = 0", ()),

@@ -227,7 +227,7 @@ def try_recovered(page: Page) -> None:
     told = page.text_of("#found")
     page.cases.holds("recovered: what fails", told.startswith("recovered fails 0 0 1"), told)
     page.cases.holds("recovered: what would have held", "with this: held" in told and "the write b 12" in told, told)
-    page.shot("15-recovered")
+    page.shot("16-recovered")
     steps = page.run("return [...S.found.begun, ...S.found.steps]")
     crash = steps.index("crash")
     page.cases.equal("recovered: the step of the crash", page.text_of("[data-explained]"), f"the crash of step {crash + 1}")
