@@ -78,6 +78,8 @@ A crash after the last step may leave x=0 y=2. Step 4, drain 0 1, made it
 possible: W y 2.
 Kept: W y 2.
 Lost: W x 1; in buffer 0 FO 0.
+Missing x 1 line 5: flushed on line 6; that flush is buffered, and the store on
+line 7 has passed it.
 """
 
 # A write and its flush, of which each leaves the pending list; a crash that loses a buffered write; a recovery that follows a
@@ -143,25 +145,89 @@ step              cpu 0
 PLAIN = [PASSED_TEXT.splitlines()[0].split(",")[0], *PASSED_TEXT.splitlines()[1:16], PASSED_TEXT.splitlines()[17]]
 NO_CPU = ["passed.litmus: 1 step", *PASSED_TEXT.splitlines()[1:4], "   0 exec 2                       refused: M2 NoCpu"]
 MISSING = "missing x 1 line 5: flushed on line 6; that flush is buffered, and the store on line 7 has passed it\n"
+# The text up to the reasons.
+UNEXPLAINED = PASSED_TEXT[: PASSED_TEXT.index("Missing")]
 IMAGE = ["--set", "0 2"]
+LEFT = "image x 0 y 2\n"
 # The name, the options, the steps and what stands before them, the status and the text of each drawing of PASSED. A report of
 # `check --show` or of `hunt --show` names an image before its steps; --set names another.
 TEXTS = [
     ("a text with an image", IMAGE, PASSED_STEPS, 0, PASSED_TEXT),
     ("a processor that is not there", [], "exec 2\n", 2, "\n".join([*NO_CPU, ""])),
     ("another image than that of the report", IMAGE, "all fails 1 2\nsteps 6\n" + PASSED_STEPS, 0, PASSED_TEXT),
+    ("with what is said of another", IMAGE, f"all fails 1 2\nsteps 6\n{PASSED_STEPS}image x 1 y 2\nmissing none\n", 0, PASSED_TEXT),
     # Without an image the text is the same but for the title, the line behind step 4, and what is said at the end.
     ("a report without an image", [], "least 7\nturn 6\ncandidates more\n" + PASSED_STEPS, 0, "\n".join([*PLAIN, ""])),
     *(
-        (f"behind {head!r}{it and f' and before {it!r}'}", [], head + PASSED_STEPS + (it and "image x 0 y 2\n" + it), 0, PASSED_TEXT)
+        (f"behind {head!r}{it and f' and before {it!r}'}", [], head + PASSED_STEPS + (it and LEFT + it), 0, wanted)
         for head, behind in (
-            ("all fails 0 2\nsteps 6\n", ("", MISSING, "missing none\n")),
-            ("words x y\nall fails 0 2\nsteps 6\n", ("",)),
-            ("least 7\nturn 6\nimage 0 2\n", ("", MISSING)),
+            ("all fails 0 2\nsteps 6\n", (("", PASSED_TEXT), (MISSING, PASSED_TEXT), ("missing none\n", UNEXPLAINED))),
+            ("words x y\nall fails 0 2\nsteps 6\n", (("", PASSED_TEXT),)),
+            ("least 7\nturn 6\nimage 0 2\n", (("", PASSED_TEXT), (MISSING, PASSED_TEXT))),
+            (
+                "all fails 0 2\nsteps 6\n",
+                (
+                    (f"{MISSING}with this: held\n", f"{PASSED_TEXT}With this: held.\n"),
+                    (
+                        f"{MISSING}none of these was found to be enough alone\n",
+                        f"{PASSED_TEXT}None of these was found to be enough alone.\n",
+                    ),
+                ),
+            ),
         )
-        for it in behind
+        for it, wanted in behind
     ),
 ]
+# The first steps of CRASHED, as a report has them of an end after the crash, with what it says of that crash: the image that it left,
+# and that the write of y was missing. Of the end itself nothing is missing. The write of x, drained by step 1, makes it possible.
+LOST_Y = "missing y 5 line 8: in the store buffer\nwith this: held\n"
+RECOVERED = f"recovered fails 1 7\nsteps 9\n{''.join(CRASHED_STEPS.splitlines(True)[:9])}crash 7\nimage x 1 y 7\n{LOST_Y}"
+RECOVERED_TEXT = "\n".join(
+    [
+        "crashed.litmus: 9 steps, and the image x=1 y=7",
+        *CRASHED_TEXT.splitlines()[1:9],
+        "     ^ since this step a crash may leave x=1 y=7",
+        *CRASHED_TEXT.splitlines()[9:24],
+        "",
+        "Step 7, crash, left x=1 y=7. Missing y 5 line 8: in the store buffer. With this:",
+        "held.",
+        "Nothing is pending after the last step, and a crash leaves x=1 y=7. Step 1,",
+        "drain 0 0, made it possible: W x 1.",
+        "",
+    ]
+)
+
+
+def recovered_text(px86: Px86) -> Checks:
+    crashed = px86.keep("crashed.litmus", CRASHED)
+    yield "its text", wrong_run(draw(px86, "--text", crashed, given=RECOVERED), 0, RECOVERED_TEXT)
+    root = ElementTree.fromstring(draw(px86, crashed, given=RECOVERED).out)
+    yield "the write that was missing", unlike(marked(root, "buffer-0")["W y 5"], "lost would-hold")
+    yield "a crash, before an image that is asked", unlike(
+        marked(ElementTree.fromstring(draw(px86, "--set", "1 7", crashed, given=RECOVERED).out), "buffer-0")["W y 5"], "lost would-hold"
+    )
+
+
+# What is said of the append, whose writes of a and b are lost, and which of them are marked: those above a line `held`.
+LOST_AB = ("missing a 11 line 6: one\n", "missing b 12 line 7: two\n")
+HELD = [
+    (LOST_AB[1] + "with this: held\nmissing too 1\n", ["W b 12"]),
+    (LOST_AB[0] + LOST_AB[1] + "with each of these: held\n", ["W a 11", "W b 12"]),
+    (LOST_AB[0] + LOST_AB[1] + "with these: held\n", ["W a 11", "W b 12"]),
+    (LOST_AB[0] + LOST_AB[1] + "none of these was found to be enough alone\n", []),
+    (LOST_AB[0] + LOST_AB[1], []),
+]
+
+
+def held(px86: Px86, said: str, wanted: list[str]) -> Checks:
+    path = "examples/guide/append-unfenced"
+    given = f"all fails 0 0 1\nsteps 8\n{read(f'{path}.steps')}image a 0 b 0 tail 1\n{said}"
+    done = draw(px86, f"{path}.litmus", given=given)
+    yield "its end", wrong_end(done, 0) or wrong_picture(done.out)
+    root = ElementTree.fromstring(done.out)
+    yield "the dashed ones", unlike([text for text, kinds in marked(root, "pending").items() if "would-hold" in kinds], wanted)
+    signs = " ".join(it.text or "" for it in root.iter(f"{SVG}text") if it.get("class") == "small")
+    yield "what the sign means", unlike("dashed:" in signs, bool(wanted))
 
 
 def passed_text(px86: Px86, options: list[str], given: str, status: int, wanted: str) -> Checks:
@@ -624,6 +690,8 @@ def cases() -> Iterator[Case]:
     """All cases."""
     yield from (Case(name, passed_text, *row) for name, *row in TEXTS)
     yield Case("a text with a crash and a refused step", crashed_text)
+    yield Case("a report with a crash that is explained", recovered_text)
+    yield from (Case(f"behind {said!r}", held, said, wanted) for said, wanted in HELD)
     yield Case("a text without steps", opening_text)
     yield from (Case(f"marks of {name}, {values}", marks, name, values, steps) for name, values, steps in MARKS)
     yield Case("equal entries", bars)

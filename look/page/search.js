@@ -39,11 +39,6 @@ async function mend(found) {
   if (S.found === found) showFound();
 }
 
-// The lines of the report that are not shown in another way.
-function reportLines(found) {
-  return found.holds ? found.lines : found.lines.filter((line) => !/^(missing|image \S+ \d+( |$))/.test(line));
-}
-
 // An exported page has no px86 to ask. One that was stopped may be asked again.
 function mendButton(found) {
   if (exported || found.question !== "check" || (found.mended && !found.mended.fault)) return null;
@@ -63,6 +58,22 @@ function mendedParts(mended) {
   ];
 }
 
+// What a crash of the run left, or the last state may leave, and which writes are missing there. `steps` are those of the run, and a
+// button shows the state before that crash, with this memory.
+function explainedPart(found, steps, part) {
+  const isLast = part.crash === null, at = isLast ? steps.length : found.begun.length + part.crash;
+  const name = isLast ? "the last state" : `the crash of step ${at + 1}`;
+  const memory = S.view.layout.flat().map((word, n) => `${word} ${part.values[n]}`).join(", ");
+  const act = () => loadAt(steps, at, part.values);
+  const place = isKnown(steps.slice(0, at))
+    ? make("button", { type: "button", class: "line-link", "data-explained": String(at), onclick: act }, name)
+    : name;
+  return make("div", { class: "explained" },
+    make("p", {}, "Missing in what ", place, isLast ? " may leave, " : " left, ", make("code", {}, memory), ":"),
+    part.missing.length ? reasonsNode(part.missing) : null,
+    ...part.said.map((line) => make("p", {}, line)));
+}
+
 function brokenParts(found) {
   const steps = [...found.begun, ...found.steps], buttons = [];
   if (isKnown(steps)) {
@@ -70,7 +81,8 @@ function brokenParts(found) {
     buttons.push(make("button", { type: "button", onclick: () => loadAndPlay(found, steps) }, "and play"));
   }
   return [
-    found.missing.length && !found.loaded ? reasonsNode(found.missing) : null,
+    ...found.explained.map((part) => explainedPart(found, steps, part)),
+    found.unexplained ? make("p", {}, `no reasons: ${found.unexplained}`) : null,
     make("div", { class: "row" }, ...buttons, mendButton(found)),
     ...mendedParts(found.mended),
   ];
@@ -79,7 +91,7 @@ function brokenParts(found) {
 function foundParts(found) {
   if (found.waiting) return [found.waiting];
   if (found.fault) return faultParts(found.fault);
-  const parts = [make("pre", {}, reportLines(found).join("\n"))];
+  const parts = [make("pre", {}, found.lines.join("\n"))];
   const from = found.begun.length ? `runs behind step ${found.begun.length}` : "runs from the start";
   parts.push(make("small", {}, found.seconds === undefined ? from : `${from}; ${found.seconds} s`));
   if (!found.holds) parts.push(...brokenParts(found));
@@ -99,17 +111,21 @@ function showFound() {
 // Shows the memory that was found, at the end of the run that leads to it.
 const chooseFound = (found) => (found.values && kind() === "all" ? choose(found.values.join(" ")) : null);
 
-async function load(found, steps) {
-  found.loaded = true;
+// Loads the run, and stands at a place of it.
+async function loadAt(steps, at, values) {
   S.steps = steps;
-  S.at = steps.length;
+  S.at = at;
   forgetChosen();
   await refresh();
+  if (values) await choose(values.join(" "));
+}
+
+async function load(found, steps) {
+  await loadAt(steps, steps.length, null);
   await chooseFound(found);
 }
 
 async function loadAndPlay(found, steps) {
-  found.loaded = true;
   S.steps = steps;
   S.at = found.begun.length;
   forgetChosen();

@@ -15,6 +15,8 @@ from support import CONDITION, EXAMPLES, Cases, Program, Server, entry_text, rea
 
 FOLDERS = ("guide", "", "every-run", "x86-tso", "persistency", "idioms")
 BASE = os.path.join(EXAMPLES, "guide", "append-unfenced")
+# What recovery of the append has to find: a tail only with its record.
+RECOVERED = "reg 0 rax = 0 or reg 0 rbx = 11 and reg 0 rcx = 12"
 
 
 class Example(NamedTuple):
@@ -230,10 +232,56 @@ def test_search(cases: Cases, server: Server, px86: Program) -> None:
         cases.equal(f"{question}: it breaks the condition", tail["tail"] != 0 and (tail["a"], tail["b"]) != (11, 12), True)
     begun = server.ask("check", steps=example.steps[:4], kind="all", **asked)
     cases.equal("check: from here", px86.data("run", text=example.text, steps=[*example.steps[:4], *begun["steps"]])["refused"], None)
-    recovered = "reg 0 rax = 0 or reg 0 rbx = 11 and reg 0 rcx = 12"
-    ended = server.ask("check", steps=[], kind="recovered", text=example.text, condition=recovered)
+    ended = server.ask("check", steps=[], kind="recovered", text=example.text, condition=RECOVERED)
     cases.equal("check: after a crash", (ended["holds"], ended["lines"][0].startswith("recovered fails")), (False, True))
-    test_mend(cases, server, example.text, (("all", CONDITION), ("recovered", recovered)))
+    cases.equal("check: after a crash, it is explained", [it["values"] for it in ended["explained"]], [[0, 0, 1]])
+    test_mend(cases, server, example.text, (("all", CONDITION), ("recovered", RECOVERED)))
+
+
+# Two stores of one line, and no flush: each crash of a run is explained apart. The condition is false of all that ends.
+TWICE = "litmus 1\nline x y\ncpu\nmov [x], 1\nmov [y], 2\nrecover\nmov rax, [y]\nmov [x], 3\nend\n"
+# Texts with what is asked of them, and steps before: one question of each kind, with no crash, one, and more.
+EXPLAINED = (
+    ("guide/append-unfenced", "all", CONDITION, ()),
+    ("guide/append-unfenced", "recovered", RECOVERED, ()),
+    ("guide/append-unfenced", "all", "not coherent tail = 1 or coherent a = 11 and coherent b = 12", ()),
+    ("guide/append-unfenced", "ends", "persisted a = 12", ()),
+    ("guide/append-unfenced", "recovered", RECOVERED, ("exec 0", "drain 0 0")),
+    ("every-run/flag-cleared-early", "recovered", "coherent a = 3 and coherent b = 3 or coherent a = 4 and coherent b = 4", ()),
+    (TWICE, "recovered", "coherent y = 2 and coherent x = 0", ()),
+    (TWICE, "all", "coherent x < 3 or persisted y = 2", ("exec 0", "exec 0", "crash")),
+)
+
+
+def lines_of_parts(names: list[str], parts: Iterable[Any]) -> list[str]:
+    """The lines that the parts of what explains a run were made of."""
+    lines: list[str] = []
+    for part in parts:
+        lines += [] if part["crash"] is None else [f"crash {part['crash']}"]
+        lines.append(" ".join(["image", *(f"{name} {value}" for name, value in zip(names, part["values"]))]))
+        lines += part["missing"] + part["said"]
+    return lines
+
+
+def test_explained(cases: Cases, server: Server, px86: Program) -> None:
+    """Of each question, what explains the run is what px86 says behind it; and of the append it is known."""
+    for name, kind, condition, steps in EXPLAINED:
+        text = read(os.path.join(EXAMPLES, f"{name}.litmus")) if "\n" not in name else name
+        found = server.ask("check", text=text, steps=list(steps), kind=kind, condition=condition)
+        asked = [f"--{kind}", condition, "--states", "200000", "--explain-image"]
+        told = px86.call("check", *asked, text=text, steps=steps).stdout.splitlines()
+        names = [it["word"] for it in px86.state(text, [])["words"]]
+        said = f"explained: {name.splitlines()[0]} {kind} {condition}"
+        cases.equal(f"{said}: the report", found["lines"], told[: len(found["lines"])])
+        cases.equal(f"{said}: what is behind it", lines_of_parts(names, found["explained"]), told[len(found["lines"]) :])
+        cases.equal(f"{said}: the report ends with the steps", found["lines"][-1], f"steps {len(found['steps'])}")
+        crashes = [place for place, step in enumerate(found["steps"]) if step == "crash"]
+        cases.equal(f"{said}: its crashes", [it["crash"] for it in found["explained"]], crashes + [None] * (kind == "all"))
+    asked = {"text": append().text, "steps": [], "kind": "recovered", "condition": RECOVERED}
+    part = server.ask("check", **asked)["explained"][0]
+    why = "line 7: flushed on line 8; that flush is buffered, and the store on line 9 has passed it"
+    cases.equal("explained: of the append", part["missing"], [f"missing b 12 {why}"])
+    cases.equal("explained: what else is said of it", part["said"], ["with this: held", "missing too 1"])
 
 
 def test_mend(cases: Cases, server: Server, text: str, questions: Iterable[tuple[str, str]]) -> None:
@@ -314,6 +362,32 @@ def test_stop(cases: Cases, server: Server) -> None:
         stopped = {"fault": {"sentence": "it was stopped", "told": ""}}
         cases.equal("stop: by the next search", told, stopped)
         cases.equal("stop: by itself", second.result(), stopped)
+
+
+# px86, but for what it does where it is asked for reasons.
+WITHOUT_REASONS = """#!/bin/sh
+case " $* " in *" --explain-image "*) {instead};; esac
+exec '{program}' "$@"
+"""
+
+
+def test_reasons(cases: Cases, program: str, folder: str) -> None:
+    """A run that was found is told, where there is no answer to what was missing; unless it is stopped."""
+    path, asked = os.path.join(folder, "px86"), {"text": append().text, "steps": [], "condition": CONDITION, "kind": "all"}
+    for name, instead in (("ended", "kill -9 $$"), ("stopped", "exec sleep 60")):
+        with open(path, "w", encoding="ascii") as file:
+            file.write(WITHOUT_REASONS.format(instead=instead, program=program))
+        os.chmod(path, 0o755)
+        with started(path, f"{BASE}.litmus") as server, ThreadPoolExecutor(1) as pool:
+            told = pool.submit(server.ask, "check", **asked)
+            if name == "stopped":
+                time.sleep(2)
+                server.ask("stop")
+                cases.equal("reasons: it is stopped", told.result(), {"fault": {"sentence": "it was stopped", "told": ""}})
+                continue
+            found = told.result()
+            cases.equal("reasons: what was found without them", (found["holds"], found["lines"][0]), (False, "all fails 0 0 1"))
+            cases.equal("reasons: there are none", (found["explained"], "check ended" in found["unexplained"]), ([], True))
 
 
 def test_object(cases: Cases, program: str) -> None:

@@ -6,7 +6,7 @@ import os
 import random
 import time
 
-from answers import BASE, append, long_text
+from answers import BASE, RECOVERED, append, long_text
 from exports import COMMITTED
 from page import Page
 from selenium.webdriver.common.action_chains import ActionChains
@@ -215,6 +215,30 @@ def try_check(page: Page) -> None:
     page.run("putIn([{ instruction: 'clwb [b]', line: 7 }, { instruction: 'sfence', line: 8 }])")
     page.cases.holds("mend: two", page.run("return S.text.includes('mov [b], 12\\nclwb [b]\\nclwb [a]\\nsfence\\nmov [tail], 1')"))
     page.settle()
+
+
+def try_recovered(page: Page) -> None:
+    """A run that ends wrongly after a crash has what that crash left, and a button shows the state before it, with this memory."""
+    page.open("append-unfenced.litmus", append().text, append().steps[:1], {"recovered": RECOVERED})
+    page.settle(1)
+    page.click("#from-here")
+    page.click("#check")
+    page.wait("document.getElementById('load')")
+    told = page.text_of("#found")
+    page.cases.holds("recovered: what fails", told.startswith("recovered fails 0 0 1"), told)
+    page.cases.holds("recovered: what would have held", "with this: held" in told and "the write b 12" in told, told)
+    page.shot("16-recovered")
+    steps = page.run("return [...S.found.begun, ...S.found.steps]")
+    crash = steps.index("crash")
+    page.cases.equal("recovered: the step of the crash", page.text_of("[data-explained]"), f"the crash of step {crash + 1}")
+    page.click("[data-explained]")
+    page.wait(f"S.at === {crash} && document.querySelector('.entry.missing')")
+    page.cases.equal("recovered: the memory", page.run("return [S.steps, S.chosen]"), [steps, "0 0 1"])
+    page.compare("recovered")
+    page.click("#load")
+    page.wait(f"S.at === {len(steps)}")
+    page.compare("recovered, at the end")
+    page.click("#from-here")
 
 
 def try_editor(page: Page) -> None:
