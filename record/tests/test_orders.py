@@ -111,8 +111,8 @@ class RefusedOrdersTest(unittest.TestCase):
     def test_no_yes_beside_one_that_is_refused(self) -> None:
         with self.assertRaises(Refused) as refused:
             self.status_of(None, 0, 0)
-        said = "too many ways\nthat is so of 1 recording; what is asked holds in 2 other recordings, the one with no forced switch"
-        self.assertTrue(str(refused.exception).startswith(said), refused.exception)
+        said = "too many ways\nthat is so of 1 recording; what is asked holds in 2 other recordings\norders of threads that were recorded: "
+        self.assertEqual(str(refused.exception), said + "the one with no forced switch, all 2 with one, 0 of 1 with two")
 
 
 class DefaultTest(unittest.TestCase):
