@@ -22,7 +22,7 @@ from .faults import Failed, plural
 
 # How many orders are recorded of a program of several threads, besides the one that chance gives, if nothing says how many.
 ORDERS_BY_DEFAULT = 16
-# Behind so many recordings that were made before no other one is made for them; and what one costs, beside one that is new.
+# Behind so many recordings that were made before no more are made; and what one costs, beside one that is new.
 MOST_ALIKE, COST_OF_ALIKE = 16, 4
 # The changes of priorities in random orders, in turn.
 MOST_CHANGES = 3
@@ -214,7 +214,7 @@ class Search:
     most_turns: int = 0
     # Orders in which the program did otherwise before their own turns.
     unlike: int = 0
-    # For so many recordings that were made before another one may be made.
+    # If nobody said how many: for each recording that was made before another one is made, up to so many of these.
     most_alike: int = 0
     # Of the levels with one switch, what was chosen has cost so much.
     cost: dict[Level, int] = field(default_factory=lambda: {Level.ONE: 0, Level.ELSEWHERE: COST_OF_ALIKE})
@@ -247,7 +247,7 @@ class Search:
         return self.most - self.recorded
 
     def add_by_chance(self) -> None:
-        """The order that chance gives was recorded. It is one more; and those count that make a new recording."""
+        """The order that chance gives was recorded. It is one more; and of the others those count that make a new recording."""
         self.done[Level.CHANCE] = Done(1, 1)
         self.most += 1
         self.most_alike = MOST_ALIKE
@@ -297,9 +297,9 @@ class Search:
         self.waiting[order.level].add_cost(order, COST_OF_ALIKE)
         if order.level in self.cost:
             self.cost[order.level] += COST_OF_ALIKE
-        if self.most_alike > 0:
+        if self.most_alike:
             self.most_alike -= 1
-            self.most += 1
+            self.most = self.most + 1 if self.most_alike else self.recorded
 
     def covered(self) -> str:
         """Which orders were recorded."""
