@@ -24,6 +24,8 @@ from .faults import Failed, plural
 ORDERS_BY_DEFAULT = 16
 # Behind so many recordings that were made before no more are made; and what one costs, beside one that is new.
 MOST_ALIKE, COST_OF_ALIKE = 16, 4
+# What choosing a place costs more, elsewhere, if it is the only one of its kind.
+RARE = 8
 # The changes of priorities in random orders, in turn.
 MOST_CHANGES = 3
 # How many orders of a level are kept.
@@ -95,6 +97,11 @@ class Order:
         return self.changes[-1][0] if self.changes else 0
 
     @property
+    def comes_in(self) -> int:
+        """The thread that is chosen at the last of its own."""
+        return self.changes[-1][1] if self.changes else -1
+
+    @property
     def words(self) -> str:
         return self.random or words_of(self.changes)
 
@@ -151,14 +158,16 @@ def spread(number: int) -> float:
 
 class Kinds:
     """Orders by the kinds of their switches. Those behind one locked operation are a group. In turn each group has one chosen, and of a
-    group each place, and of a place each part of the run; but after a recording that was made before others come first."""
+    group each place, of a place each thread that comes in, and of these each part of the run; but after a recording that was made before
+    others come first. With `rare` a place that few orders have, as where threads begin, comes late."""
 
-    def __init__(self) -> None:
+    def __init__(self, rare: int = 0) -> None:
+        self.rare = rare
         # Each with its number.
         self.waiting: dict[Kind, list[tuple[int, Order]]] = {}
         self.count = self.added = 0
-        # What was chosen of a kind, or of a group, has cost so much; and how often a kind was chosen.
-        self.cost: defaultdict[Kind | str, int] = defaultdict(int)
+        # What was chosen has cost so much: of a group, of a kind, and of a thread that comes in. How often a kind was chosen.
+        self.cost: defaultdict[Kind | str | int, int] = defaultdict(int)
         self.chosen: defaultdict[Kind, int] = defaultdict(int)
 
     def __len__(self) -> int:
@@ -177,22 +186,26 @@ class Kinds:
         return [order for _, order in orders]
 
     def choose(self) -> Order:
-        """The next one of those that wait. A kind of which only one waits comes behind those of which several do."""
+        """The next one of those that wait."""
 
-        def rank(kind: Kind) -> tuple[bool, int, int]:
-            return self.chosen[kind] == 0 and len(self.waiting[kind]) == 1, self.cost[kind[0]], self.cost[kind]
+        def rank(kind: Kind) -> tuple[float, float]:
+            late = self.rare / (self.chosen[kind] + len(self.waiting[kind]))
+            return self.cost[kind[0]] + late, self.cost[kind] + late
 
         kind = min((kind for kind, orders in self.waiting.items() if orders), key=rank)
         orders = self.waiting[kind]
-        _, order = orders.pop(int(spread(self.chosen[kind]) * len(orders)))
+        thread = min((order.comes_in for _, order in orders), key=lambda thread: (self.cost[thread], -thread))
+        some = [it for it in orders if it[1].comes_in == thread]
+        chosen = some[int(spread(self.chosen[kind]) * len(some))]
+        orders.remove(chosen)
         self.chosen[kind] += 1
         self.count -= 1
-        self.add_cost(order, 1)
-        return order
+        self.add_cost(chosen[1], 1)
+        return chosen[1]
 
     def add_cost(self, order: Order, cost: int) -> None:
-        self.cost[order.kind] += cost
-        self.cost[order.kind[0]] += cost
+        for what in (order.kind[0], order.kind, order.comes_in):
+            self.cost[what] += cost
 
 
 @dataclass
@@ -209,7 +222,7 @@ class Search:
 
     most: int
     seed: int
-    waiting: dict[Level, Kinds] = field(default_factory=lambda: {level: Kinds() for level in Level})
+    waiting: dict[Level, Kinds] = field(default_factory=lambda: {level: Kinds(RARE * (level is Level.ELSEWHERE)) for level in Level})
     done: dict[Level, Done] = field(default_factory=lambda: {level: Done() for level in Level})
     most_turns: int = 0
     # Orders in which the program did otherwise before their own turns.
