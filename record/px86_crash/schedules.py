@@ -23,9 +23,11 @@ from .faults import Failed, plural
 # How many orders are recorded of a program of several threads, besides the one that chance gives, if nothing says how many.
 ORDERS_BY_DEFAULT = 16
 # Behind so many recordings that were made before no more are made; and what one costs, beside one that is new.
-MOST_ALIKE, COST_OF_ALIKE = 16, 4
+MOST_ALIKE, COST_OF_ALIKE = 24, 4
 # What choosing a place costs more, elsewhere, if it is the only one of its kind.
 RARE = 8
+# So many orders of a kind are the first ones; then they are spread over the run.
+FIRST_ONES = 3
 # The changes of priorities in random orders, in turn.
 MOST_CHANGES = 3
 # How many orders of a level are kept.
@@ -156,10 +158,16 @@ def spread(number: int) -> float:
     return int(bits, 2) / (1 << len(bits))
 
 
+def place_of(chosen: int, left: int) -> int:
+    """Which of those that are left in a row is the next, after so many: the first ones, as many faults are of small numbers, and then
+    some of all."""
+    return 0 if chosen < FIRST_ONES else int(spread(chosen - FIRST_ONES + 1) * left)
+
+
 class Kinds:
     """Orders by the kinds of their switches. Those behind one locked operation are a group. In turn each group has one chosen, and of a
-    group each place, of a place each thread that comes in, and of these each part of the run; but after a recording that was made before
-    others come first. With `rare` a place that few orders have, as where threads begin, comes late."""
+    group each place, of a place each thread that comes in, and of these the first ones and then each part of the run; but after a
+    recording that was made before others come first. With `rare` a place that few orders have, as where threads begin, comes late."""
 
     def __init__(self, rare: int = 0) -> None:
         self.rare = rare
@@ -167,7 +175,7 @@ class Kinds:
         self.waiting: dict[Kind, list[tuple[int, Order]]] = {}
         self.count = self.added = 0
         # What was chosen has cost so much: of a group, of a kind, and of a thread that comes in. How often a kind was chosen.
-        self.cost: defaultdict[Kind | str | int, int] = defaultdict(int)
+        self.cost: defaultdict[object, int] = defaultdict(int)
         self.chosen: defaultdict[Kind, int] = defaultdict(int)
 
     def __len__(self) -> int:
@@ -196,7 +204,7 @@ class Kinds:
         orders = self.waiting[kind]
         thread = min((order.comes_in for _, order in orders), key=lambda thread: (self.cost[thread], -thread))
         some = [it for it in orders if it[1].comes_in == thread]
-        chosen = some[int(spread(self.chosen[kind]) * len(some))]
+        chosen = some[place_of(self.chosen[kind], len(some))]
         orders.remove(chosen)
         self.chosen[kind] += 1
         self.count -= 1

