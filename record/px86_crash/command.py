@@ -113,7 +113,7 @@ def parser() -> Parser:
     add("--recovery", metavar="'CMD {}'", help="record CMD on each memory too, and check what a crash of it leaves")
     add("--runs", metavar="N", type=count, default=1, help="record N times (several threads)")
     add("--schedules", metavar="N", type=number, help="record at most N orders of threads: those with few forced switches first, and "
-        f"then by random priorities; 0: the one that chance gives. If left out, that one and {ORDERS_BY_DEFAULT} others, "
+        f"then by random priorities; 0: the one that chance gives. If left out, that one and {ORDERS_BY_DEFAULT} others that differ, "
         "unless there is --seed, --step, --all, --recovery, --reads all, or an input by a pipe")
     add("--schedule", metavar="WORDS", help="record this order of threads, as --schedules tells it")
     add("--seed", metavar="S", type=number, help="of the random orders of threads; of --runs that of the first")
