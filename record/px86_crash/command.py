@@ -26,7 +26,7 @@ from .places import Places
 from .questions import Questions, asked_words
 from .recording import GRAINS, WORD, Recording
 from .report import Progress, Report, draw, say_recorded, say_yes
-from .schedules import ORDERS_BY_DEFAULT, Level, Order, Search, read_turns, threads_of, words_of_turns
+from .schedules import ORDERS_BY_DEFAULT, Search, read_turns, threads_of, words_of_turns
 from .text import MOST_INSTRUCTIONS, Names
 
 USAGE = """px86-crash (--file POOL | --symbol NAME) [OPTIONS] -- PROGRAM ARGS..
@@ -412,11 +412,9 @@ class Orders:
         """Of how many some memories alone were asked, and are accepted."""
         return len(self.passed_over) - len(self.refused)
 
-    def accept(self, order: Order, report: Report, is_new: bool) -> None:
+    def accept(self, report: Report, is_new: bool) -> None:
         self.accepted.append(report)
         self.held += is_new
-        if not is_new:
-            self.search.note_alike(order)
 
     def counts(self) -> dict[str, int]:
         return {"in_part": self.cut, "refused": len(self.refused), "not_played": self.search.unlike}
@@ -437,7 +435,7 @@ def answer_orders(
     if first is not None:
         search.add_by_chance()
         if first.refused is None:
-            orders.accept(Order(Level.CHANCE), first.report, True)
+            orders.accept(first.report, True)
         else:
             orders.passed_over.append(first.refused)
     for order in search:
@@ -463,6 +461,8 @@ def answer_orders(
         except Refused as refused:
             orders.passed_over.append(refused)
             continue
+        finally:
+            search.note_made(order, len(orders.seen) > known)
         if first is not None and status == 3 and quiet.facts.get("deadlock") is False:
             orders.passed_over.append(Refused("each thread waits in a loop"))
             continue
@@ -472,7 +472,7 @@ def answer_orders(
             if first is not None and first.refused is not None:
                 report.say(f"note: the order that chance gave is refused: {first_line(first.refused)}")
             return status
-        orders.accept(order, quiet, len(orders.seen) > known)
+        orders.accept(quiet, len(orders.seen) > known)
     Progress.within = ""
     return say_all_orders(report, first, orders)
 

@@ -26,8 +26,6 @@ ORDERS_BY_DEFAULT = 16
 MOST_ALIKE, COST_OF_ALIKE = 24, 4
 # What choosing a place costs more, elsewhere, if it is the only one of its kind.
 RARE = 8
-# So many orders of a kind are the first ones; then they are spread over the run.
-FIRST_ONES = 3
 # The changes of priorities in random orders, in turn.
 MOST_CHANGES = 3
 # How many orders of a level are kept.
@@ -104,6 +102,11 @@ class Order:
         return self.changes[-1][1] if self.changes else -1
 
     @property
+    def row(self) -> tuple[tuple[tuple[int, int], ...], int]:
+        """What it has in common with those that differ in the place of the last switch alone."""
+        return self.changes[:-1], self.comes_in
+
+    @property
     def words(self) -> str:
         return self.random or words_of(self.changes)
 
@@ -158,31 +161,37 @@ def spread(number: int) -> float:
     return int(bits, 2) / (1 << len(bits))
 
 
-def place_of(chosen: int, left: int) -> int:
-    """Which of those that are left in a row is the next, after so many: the first ones, as many faults are of small numbers, and then
-    some of all."""
-    return 0 if chosen < FIRST_ONES else int(spread(chosen - FIRST_ONES + 1) * left)
+# Orders that differ in the place of their last switch alone.
+Row = tuple[tuple[tuple[int, int], ...], int]
 
 
 class Kinds:
     """Orders by the kinds of their switches. Those behind one locked operation are a group. In turn each group has one chosen, and of a
-    group each place, of a place each thread that comes in, and of these the first ones and then each part of the run; but after a
-    recording that was made before others come first. With `rare` a place that few orders have, as where threads begin, comes late."""
+    group each place; of a place a first one, as many faults are of small numbers, and then one from any part of the run. But after a
+    recording that was made before others come first. With `rare` a place that few orders have, as where threads begin, comes late.
+
+    Every second time, if there is one, it is an order between two of which one made a new recording and the other did not: so where
+    another thread begins to go on is found by halving."""
 
     def __init__(self, rare: int = 0) -> None:
         self.rare = rare
-        # Each with its number.
+        # Those that wait; each with its number.
         self.waiting: dict[Kind, list[tuple[int, Order]]] = {}
+        self.rows: defaultdict[Row, dict[int, tuple[int, Order]]] = defaultdict(dict)
         self.count = self.added = 0
-        # What was chosen has cost so much: of a group, of a kind, and of a thread that comes in. How often a kind was chosen.
+        # What was chosen has cost so much: of a group, of a kind, and of a thread that comes in. How often a group was chosen.
         self.cost: defaultdict[object, int] = defaultdict(int)
-        self.chosen: defaultdict[Kind, int] = defaultdict(int)
+        self.chosen: defaultdict[object, int] = defaultdict(int)
+        # Of each row whether the orders that were recorded made a new recording, by the turn of their last switch.
+        self.made_new: defaultdict[Row, dict[int, bool]] = defaultdict(dict)
+        self.choices = 0
 
     def __len__(self) -> int:
         return self.count
 
     def add(self, order: Order) -> None:
         self.waiting.setdefault(order.kind, []).append((self.added, order))
+        self.rows[order.row][order.own] = self.added, order
         self.added += 1
         self.count += 1
 
@@ -190,30 +199,58 @@ class Kinds:
         """All that wait, in the order in which they came."""
         orders = sorted((it for orders in self.waiting.values() for it in orders), key=lambda it: it[0])
         self.waiting.clear()
+        self.rows.clear()
         self.count = 0
         return [order for _, order in orders]
 
     def choose(self) -> Order:
         """The next one of those that wait."""
+        self.choices += 1
+        chosen = (self.between() if self.choices % 2 == 0 else None) or self.of_kind()
+        _, order = chosen
+        self.waiting[order.kind].remove(chosen)
+        del self.rows[order.row][order.own]
+        self.count -= 1
+        self.chosen[order.kind[0]] += 1
+        self.add_cost(order, 1)
+        return order
 
+    def between(self) -> tuple[int, Order] | None:
+        """The one in the middle between two neighbours that differ, of the nearest ones; none if there are no such."""
+        found: tuple[int, tuple[int, Order]] | None = None
+        for row, made_new in self.made_new.items():
+            turns = sorted(made_new)
+            for first, last in zip(turns, turns[1:]):
+                if made_new[first] == made_new[last]:
+                    continue
+                some = sorted(turn for turn in self.rows[row] if first < turn < last)
+                if some and (found is None or len(some) < found[0]):
+                    found = len(some), self.rows[row][some[len(some) // 2]]
+        return found[1] if found else None
+
+    def of_kind(self) -> tuple[int, Order]:
         def rank(kind: Kind) -> tuple[float, float]:
-            late = self.rare / (self.chosen[kind] + len(self.waiting[kind]))
+            late = self.rare / (self.chosen[kind[0]] + len(self.waiting[kind]))
             return self.cost[kind[0]] + late, self.cost[kind] + late
 
-        kind = min((kind for kind, orders in self.waiting.items() if orders), key=rank)
-        orders = self.waiting[kind]
+        kinds = [kind for kind, orders in self.waiting.items() if orders]
+        least = min(map(rank, kinds))
+        first = [kind for kind in kinds if rank(kind) == least]
+        part = spread(self.chosen[first[0][0]])
+        orders = self.waiting[first[int(part * len(first))]]
         thread = min((order.comes_in for _, order in orders), key=lambda thread: (self.cost[thread], -thread))
         some = [it for it in orders if it[1].comes_in == thread]
-        chosen = some[place_of(self.chosen[kind], len(some))]
-        orders.remove(chosen)
-        self.chosen[kind] += 1
-        self.count -= 1
-        self.add_cost(chosen[1], 1)
-        return chosen[1]
+        return some[int(part * len(some)) if self.chosen[first[0][0]] % 2 else 0]
 
     def add_cost(self, order: Order, cost: int) -> None:
         for what in (order.kind[0], order.kind, order.comes_in):
             self.cost[what] += cost
+
+    def note(self, order: Order, is_new: bool) -> None:
+        """What was recorded of one of these was new, or was made before."""
+        self.made_new[order.row][order.own] = is_new
+        if not is_new:
+            self.add_cost(order, COST_OF_ALIKE)
 
 
 @dataclass
@@ -313,9 +350,11 @@ class Search:
         self.done[order.level].recorded += 1
         self.unlike += 1
 
-    def note_alike(self, order: Order) -> None:
-        """The recording of an order was made before, in another one."""
-        self.waiting[order.level].add_cost(order, COST_OF_ALIKE)
+    def note_made(self, order: Order, is_new: bool) -> None:
+        """The recording of an order is new, or was made before, in another one."""
+        self.waiting[order.level].note(order, is_new)
+        if is_new:
+            return
         if order.level in self.cost:
             self.cost[order.level] += COST_OF_ALIKE
         if self.most_alike:

@@ -252,9 +252,8 @@ class Orders(unittest.TestCase):
         for order in search:
             turns, done = turns_with_lock(dict(order.changes))
             search.note(order, turns)
-            if done in seen:
-                alike += 1
-                search.note_alike(order)
+            search.note_made(order, done not in seen)
+            alike += done in seen
             seen.add(done)
             stopped_at |= {turns[number].place for number, _ in order.changes}
         self.assertEqual(search.unlike, 0)
@@ -269,7 +268,7 @@ class Orders(unittest.TestCase):
         for order in search:
             turns, _ = turns_with_lock(dict(order.changes))
             search.note(order, turns)
-            search.note_alike(order)
+            search.note_made(order, False)
             count += 1
         self.assertEqual(count, 24)
 
