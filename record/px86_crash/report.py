@@ -87,8 +87,9 @@ class Progress:
 
     # How long it waits on a terminal, and otherwise.
     SECONDS, SECONDS_OF_LINES = 0.2, 2.0
-    # Whether lines are asked for; and what this is a part of.
+    # Whether lines are asked for, and when there was one; and what this is a part of.
     by_lines = False
+    line_at = time.monotonic()
     within = ""
 
     def __init__(self, what: str, total: int = 0, is_wanted: bool = True) -> None:
@@ -115,10 +116,12 @@ class Progress:
             self.show(f"{self.what}, {self.last - self.begun:,.0f} s", more)
 
     def is_due(self) -> bool:
-        now = time.monotonic()
-        if not self.shown or now - self.last < (self.SECONDS if self.is_terminal else self.SECONDS_OF_LINES):
+        if not self.shown:
             return False
-        self.last = now
+        now = time.monotonic()
+        if now < (self.last + self.SECONDS if self.is_terminal else Progress.line_at + self.SECONDS_OF_LINES):
+            return False
+        self.last = Progress.line_at = now
         return True
 
     def show(self, *said: str) -> None:
