@@ -183,7 +183,7 @@ class Questions:
                 progress.done()
                 return Image(text, look, tuple(told["all"]["image"]))
             if status:
-                _, _, said = case.px86.ask("--explain", *words)
+                _, _, said = case.px86.report(*words, explains=True)
                 raise Failed(f"--all: {said}{self.meant_name(said)}")
             true |= values
             progress.at(number)

@@ -191,6 +191,8 @@ class Json(unittest.TestCase):
     def test_faults(self) -> None:
         fault = json.dumps({"fault": {"name": "BadCond", "number": "E1", "place": "4", "sentence": "E1: a token."}})
         self.assertEqual(fault_in(fault), "E1 BadCond 4")
+        explained = fault.replace('"sentence"', '"explanation": "--all | x y\\n      | ^\\nE1: a token.\\n", "sentence"')
+        self.assertEqual(fault_in(explained), "E1 BadCond 4\n--all | x y\n      | ^\nE1: a token.")
         no_place = fault.replace('"4"', "null")
         self.assertEqual(fault_in(f"px86: 11 states were found and 7 explored\n{no_place}"), "E1 BadCond")
         for said in "", "X1 BadWord line 4", "[1]", '{"other": 1}':
