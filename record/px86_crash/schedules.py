@@ -8,7 +8,8 @@ ASPLOS 2010).
 
 Where the orders of a level are too many they are taken by the kinds of their switches: where in the program the thread is stopped, and
 behind which locked operation of its own. So a switch behind an unlock is of another kind than one behind a lock. Where another thread
-waits for that lock the recording is one that was made before: then fewer orders of this kind follow."""
+waits for that lock the recording is one that was made before: then fewer orders of this kind follow. Between a switch that is vain and
+one that is not there is the place from which the other thread goes on; it is looked for by halving."""
 
 from __future__ import annotations
 
@@ -229,18 +230,21 @@ class Kinds:
         return found[1] if found else None
 
     def of_kind(self) -> tuple[int, Order]:
+        """One of the kind that has cost least, of the group that has."""
+
         def rank(kind: Kind) -> tuple[float, float]:
             late = self.rare / (self.chosen[kind[0]] + len(self.waiting[kind]))
             return self.cost[kind[0]] + late, self.cost[kind] + late
 
         kinds = [kind for kind, orders in self.waiting.items() if orders]
         least = min(map(rank, kinds))
-        first = [kind for kind in kinds if rank(kind) == least]
-        part = spread(self.chosen[first[0][0]])
-        orders = self.waiting[first[int(part * len(first))]]
+        kinds = [kind for kind in kinds if rank(kind) == least]
+        before = self.chosen[kinds[0][0]]
+        part = spread(before)
+        orders = self.waiting[kinds[int(part * len(kinds))]]
         thread = min((order.comes_in for _, order in orders), key=lambda thread: (self.cost[thread], -thread))
         some = [it for it in orders if it[1].comes_in == thread]
-        return some[int(part * len(some)) if self.chosen[first[0][0]] % 2 else 0]
+        return some[int(part * len(some)) if before % 2 else 0]
 
     def add_cost(self, order: Order, cost: int) -> None:
         for what in (order.kind[0], order.kind, order.comes_in):
@@ -322,7 +326,10 @@ class Search:
         while most > 0 and orders:
             some = orders.take_all() if len(orders) <= most else [orders.choose()]
             most -= len(some)
-            yield from some
+            for order in some:
+                if self.left <= 0:
+                    return
+                yield order
 
     def of_one_switch(self) -> Iterator[Order]:
         """Some orders of those with one forced switch, which are too many: of those at a locked operation elsewhere one for two others."""

@@ -261,6 +261,24 @@ class Orders(unittest.TestCase):
         self.assertGreaterEqual(len(seen), 11)
         self.assertIn("rare", stopped_at)
 
+    def test_where_another_thread_begins_to_go_on(self) -> None:
+        """A thread stores 200 times, each time at another place; from one of these on another thread does something. That is found
+        exactly: switches that are vain stand before it, and others behind it. (At the very end it may be missed.)"""
+        for begin in (3, 77, 150, 180):
+            points = [(f"p{number}", "here") for number in range(200)]
+            search, seen, last = Search(16, 1), set[tuple[int, ...]](), -1
+            search.add_by_chance()
+            for order in search:
+                turn = order.changes[-1][0] if order.changes else 200
+                turns = [Turn(where, 2 if number == turn else 1, 1, (1, 2), place) for number, (place, where) in enumerate(points)]
+                # What the other thread does is seen at the place where it comes in, if that is not before it can.
+                done = (turn,) if begin <= turn < 200 else ()
+                search.note(order, turns[: turn + 1] if order.changes else turns)
+                search.note_made(order, done not in seen)
+                seen.add(done)
+                last = turn if turn == begin else last
+            self.assertEqual(last, begin)
+
     def test_recordings_that_are_all_alike(self) -> None:
         """Then there are no more of them than that."""
         search, count = Search(16, 1), 0
