@@ -14,7 +14,7 @@
 enum { SEGMENTS = 6, ROOM = 3, APPENDS = 7, THREADS = 2 };
 
 struct segment {
-    uint64_t records[ROOM]; // the number of the thread that has appended it, from 1
+    uint64_t records[ROOM];       // the number of the thread that has appended it, from 1
     _Alignas(LINE) uint64_t next; // the number of the next segment, from 1
 };
 
@@ -79,7 +79,8 @@ static int check(void)
     } while (number);
     for (int thread = 0; thread < THREADS; thread++)
         if (found[thread] < pool->done[thread].count) {
-            printf("of thread %d %lu records are counted, and %lu can be reached\n", thread, pool->done[thread].count, found[thread]);
+            printf("of thread %d %lu records are counted, and %lu can be reached\n", thread, pool->done[thread].count,
+                   found[thread]);
             return 1;
         }
     return 0;
