@@ -440,7 +440,7 @@ def answer_orders(
             orders.passed_over.append(first.refused)
     for order in search:
         quiet, known = Report(is_quiet=True), len(orders.seen)
-        Progress.within = f"order {search.recorded + 1} of {search.most}, {known} differ"
+        Progress.within = f"order {search.recorded + 1} of at most {search.most}, {known} different"
         run = make_run(quiet, BOUND_BY_DEFAULT if first is not None else None)
         try:
             log = run.record(0, order.words)
