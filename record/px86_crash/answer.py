@@ -14,7 +14,7 @@ from .images import Images
 from .one_thread import Planner
 from .places import Places
 from .recording import Recording
-from .report import Report
+from .report import Progress, Report
 from .text import Names, Text
 from .threads import text_of_threads
 
@@ -76,11 +76,14 @@ class Answer:
         # It takes a tenth of the time in which the command starts.
         from concurrent.futures import ThreadPoolExecutor
 
+        progress = Progress("texts are listed", len(self.texts))
         with ThreadPoolExecutor(case.jobs) as executor:
-            for text, (images, final) in zip(self.texts, executor.map(self.play, self.texts)):
+            for number, (text, (images, final)) in enumerate(zip(self.texts, executor.map(self.play, self.texts))):
+                progress.at(number)
                 finals.append(final)
                 self.images.add(text, images)
                 self.asked_values.append([values_of(text, case.asked, some) for some in images])
+        progress.done()
         word = emulator.replay(recording, self.texts, finals)
         if word is not None:
             raise Failed(f"px86 run of all comes to another memory than the program: the word at {word:#x} differs")

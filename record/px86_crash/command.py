@@ -12,7 +12,7 @@ import re
 import shlex
 import sys
 from collections.abc import Sequence
-from dataclasses import replace
+from dataclasses import dataclass, field, replace
 from typing import Any, NoReturn, Protocol
 
 from . import folders, readers, stepper
@@ -28,7 +28,6 @@ from .recording import GRAINS, WORD, Recording
 from .report import Progress, Report, draw, say_recorded, say_yes
 from .schedules import ORDERS_BY_DEFAULT, Search, read_turns, threads_of, words_of_turns
 from .text import MOST_INSTRUCTIONS, Names
-from .threads import TooManyWays
 
 USAGE = """px86-crash (--file POOL | --symbol NAME) [OPTIONS] -- PROGRAM ARGS..
        px86-crash --log LOG [OPTIONS]
@@ -114,7 +113,7 @@ def parser() -> Parser:
     add("--recovery", metavar="'CMD {}'", help="record CMD on each memory too, and check what a crash of it leaves")
     add("--runs", metavar="N", type=count, default=1, help="record N times (several threads)")
     add("--schedules", metavar="N", type=number, help="record at most N orders of threads: those with few forced switches first, and "
-        f"then by random priorities; 0: the one that chance gives. If left out, that one and {ORDERS_BY_DEFAULT} others, "
+        f"then by random priorities; 0: the one that chance gives. If left out, that one and {ORDERS_BY_DEFAULT} others that differ, "
         "unless there is --seed, --step, --all, --recovery, --reads all, or an input by a pipe")
     add("--schedule", metavar="WORDS", help="record this order of threads, as --schedules tells it")
     add("--seed", metavar="S", type=number, help="of the random orders of threads; of --runs that of the first")
@@ -143,6 +142,7 @@ def parser() -> Parser:
     add("--part", metavar="K/N", type=part_of, default=Part(), help="ask of the part K of N of the --log alone: a JSON object for --join")
     add("--join", metavar="FILE", nargs="+", help="the answer of all parts")
     add("--json", action="store_true", help="the answer as one JSON object")
+    add("--progress", action="store_true", help="say on standard error how far it is, also where that is no terminal")
     add("--out", metavar="DIR", default="px86-out", help="the folder for all files (px86-out)")
     add("program", nargs=argparse.REMAINDER, help=argparse.SUPPRESS)
     return made
@@ -292,7 +292,7 @@ class Run:
         region += ["--schedule", schedule] if schedule is not None else []
         if options.place_of_input is not None:
             os.lseek(0, options.place_of_input, os.SEEK_SET)
-        stepper.record(self.path("log"), words, region, self.path("output"))
+        stepper.record(self.path("log"), words, region, self.path("output"), is_told=True)
         return self.path("log")
 
     def answer(self, number: int) -> int:
@@ -335,7 +335,7 @@ class Run:
         try:
             return self.ask(log, seen)
         except (Refused, Failed) as fault:
-            kind = next(kind for kind in (TooManyWays, Cut, Refused, Failed) if isinstance(fault, kind))
+            kind = next(kind for kind in (Cut, Refused, Failed) if isinstance(fault, kind))
             raise kind(f"{fault}\nin the order --schedule {shlex.quote(schedule)}") from fault
 
     def case(self, recording: Recording, places: Places) -> Case:
@@ -361,44 +361,86 @@ def choose_reads(options: argparse.Namespace, report: Report) -> None:
 
 
 def answer_by_default(options: argparse.Namespace, report: Report, make_run: MakeRun) -> int:
-    """Records a program in the order that chance gives. If it has several threads, and the answer is YES, some orders are chosen too."""
+    """Records a program in the order that chance gives. If it has several threads, and the answer is YES or it is refused, some orders
+    are chosen too."""
     is_again, run = stepper.is_input_there_again(), make_run(report)
     log = run.record(1, None)
     if threads_of(log) < 2 or not is_again:
         return run.ask(log)
-    first, seen, status = Report(is_quiet=True), set[bytes](), 3
-    run.report = first
+    first, seen, status = First(Report(is_quiet=True)), set[bytes](), 3
+    run.report = first.report
     # What is said of a YES is mostly of this one, so its folder stays as it is.
     try:
         status = run.ask(log, seen)
+    except Refused as refused:
+        first.refused, status = refused, 0
     finally:
         if status:
-            report.take(first)
+            report.take(first.report)
     if status:
         return status
     options.schedules = ORDERS_BY_DEFAULT
     return answer_orders(options, report, make_run, first, seen)
 
 
+@dataclass
+class First:
+    """What was said of the order that chance gave, if nobody asked for others; and why it is refused, if so."""
+
+    report: Report
+    refused: Refused | None = None
+
+
+@dataclass
+class Orders:
+    """What was found of orders that were recorded."""
+
+    search: Search
+    # The recordings that differ.
+    seen: set[bytes]
+    accepted: list[Report] = field(default_factory=list)
+    # How many of those that differ are accepted.
+    held: int = 0
+    passed_over: list[Refused] = field(default_factory=list)
+
+    @property
+    def refused(self) -> list[Refused]:
+        return [fault for fault in self.passed_over if not isinstance(fault, Cut)]
+
+    @property
+    def cut(self) -> int:
+        """Of how many some memories alone were asked, and are accepted."""
+        return len(self.passed_over) - len(self.refused)
+
+    def accept(self, report: Report, is_new: bool) -> None:
+        self.accepted.append(report)
+        self.held += is_new
+
+    def counts(self) -> dict[str, int]:
+        return {"in_part": self.cut, "refused": len(self.refused), "not_played": self.search.unlike}
+
+
 def answer_orders(
     options: argparse.Namespace,
     report: Report,
     make_run: MakeRun,
-    first: Report | None = None,
+    first: First | None = None,
     seen: set[bytes] | None = None,
 ) -> int:
-    """Records one order of threads after another, up to the first of which the answer is not YES. One in which flushes wait in too many
-    ways is passed over, as another one may be bad; in the end there is no YES. `first` is what was said of the order that chance gave,
-    if nobody asked for others: then one that is not answered is passed over, and YES speaks of the first alone."""
-    search, seen = Search(options.schedules, seed_of(options)), set[bytes]() if seen is None else seen
-    passed_over: list[Refused] = []
-    accepted: list[Report] = []
-    progress = Progress("orders are recorded", options.schedules)
+    """Records one order of threads after another, up to the first of which the answer is not YES. One that is refused is passed over, as
+    another one may be bad; in the end there is no YES. `first` is what was said of the order that chance gave, if nobody asked for
+    others: then one that is not answered is passed over, and YES speaks of the first alone."""
+    orders = Orders(Search(options.schedules, seed_of(options)), set() if seen is None else seen)
+    search = orders.search
     if first is not None:
         search.add_by_chance()
-        accepted.append(first)
-    for number, order in enumerate(search):
-        quiet = Report(is_quiet=True)
+        if first.refused is None:
+            orders.accept(first.report, True)
+        else:
+            orders.passed_over.append(first.refused)
+    for order in search:
+        quiet, known = Report(is_quiet=True), len(orders.seen)
+        Progress.within = f"order {search.recorded + 1} of at most {search.most}, {known} different"
         run = make_run(quiet, BOUND_BY_DEFAULT if first is not None else None)
         try:
             log = run.record(0, order.words)
@@ -409,40 +451,61 @@ def answer_orders(
             if first is None:
                 raise
             # It may be that it hangs, and so would the next ones.
-            passed_over.append(Refused(str(fault)))
+            orders.passed_over.append(Refused(str(fault)))
             break
         turns = read_turns(log + ".turns")
         search.note(order, turns)
         words = words_of_turns(turns)
         try:
-            status = run.ask_order(log, words, seen)
+            status = run.ask_order(log, words, orders.seen)
         except Refused as refused:
-            if first is None and not isinstance(refused, TooManyWays):
-                raise
-            passed_over.append(refused)
+            orders.passed_over.append(refused)
             continue
+        finally:
+            search.note_made(order, len(orders.seen) > known)
         if first is not None and status == 3 and quiet.facts.get("deadlock") is False:
-            passed_over.append(Refused("each thread waits in a loop"))
+            orders.passed_over.append(Refused("each thread waits in a loop"))
             continue
         if status:
-            progress.done()
             report.take(quiet)
             say_order(report, search, words)
+            if first is not None and first.refused is not None:
+                report.say(f"note: the order that chance gave is refused: {first_line(first.refused)}")
             return status
-        accepted.append(quiet)
-        progress.at(number + 1, f"{len(seen)} of them differ")
-    progress.done()
-    if first is not None and (passed_over or search.unlike):
-        return say_first(report, first, search, passed_over)
+        orders.accept(quiet, len(orders.seen) > known)
+    Progress.within = ""
+    return say_all_orders(report, first, orders)
+
+
+def say_all_orders(report: Report, first: First | None, orders: Orders) -> int:
+    """What is said where none of the orders is bad."""
+    if first is not None and first.refused is None and (orders.passed_over or orders.search.unlike):
+        return say_first(report, first.report, orders)
     if first is not None:
-        report.facts |= first.facts
-        for line in first.lines[:-1]:
+        report.facts |= first.report.facts
+        for line in first.report.lines[: None if first.refused is not None else -1]:
             if line != ONE_ORDER:
                 report.say(line)
-    if passed_over:
-        others = f"{plural(len(seen) - len(passed_over), 'other recording')}, {search.covered()}"
-        raise Refused(f"{passed_over[0]}\nthat is so of {plural(len(passed_over), 'recording')}; what is asked holds in {others}")
-    return say_orders(report, search, len(seen), accepted)
+    if orders.passed_over:
+        report.note(other_orders=orders.counts())
+        raise refused_orders(orders)
+    return say_orders(report, orders)
+
+
+def refused_orders(orders: Orders) -> Refused:
+    """Why there is no YES of all orders, and of which ones what is asked holds."""
+    why, count = orders.refused[0], len(orders.refused)
+    if not orders.held and not orders.cut:
+        return Refused(f"{why}\nthat is so of each order that was recorded: {orders.search.covered()}" if count > 1 else str(why))
+    held = plural(orders.held, "other recording") + (f", and in some memories of {orders.cut} more" if orders.cut else "")
+    return Refused(
+        f"{why}\nthat is so of {plural(count, 'recording')}; what is asked holds in {held}\n"
+        f"orders of threads that were recorded: {orders.search.covered()}"
+    )
+
+
+def first_line(fault: Exception) -> str:
+    return str(fault).splitlines()[0]
 
 
 def key_of(recording: Recording, is_with_locks: bool) -> bytes:
@@ -482,25 +545,23 @@ def again(words: Sequence[str], order: Sequence[str]) -> list[str]:
     return made
 
 
-def say_first(report: Report, first: Report, search: Search, passed_over: Sequence[Refused]) -> int:
+def say_first(report: Report, first: Report, orders: Orders) -> int:
     """What was said of the order that chance gave: YES speaks of it alone, as not all of the others are answered."""
-    refused = [fault for fault in passed_over if not isinstance(fault, Cut)]
-    cut = len(passed_over) - len(refused)
     *lines, accepted = first.lines
     for line in lines:
         report.say(line)
-    if cut:
+    if orders.cut:
         report.say(
-            f"note: of {plural(cut, 'recording')} in other orders some memories alone were asked, and are accepted "
+            f"note: of {plural(orders.cut, 'recording')} in other orders some memories alone were asked, and are accepted "
             f"(--schedules {ORDERS_BY_DEFAULT} asks of all)"
         )
-    if refused:
-        why = str(refused[0]).splitlines()[0]
-        report.say(f"note: {plural(len(refused), 'recording')} in other orders could not be asked of: {why}")
-    say_unlike(report, search)
+    if orders.refused:
+        count, why = len(orders.refused), first_line(orders.refused[0])
+        report.say(f"note: {plural(count, 'recording')} in other orders could not be asked of: {why}")
+    say_unlike(report, orders.search)
     report.say(accepted)
     report.facts |= first.facts
-    report.note(other_orders={"in_part": cut, "refused": len(refused), "not_played": search.unlike})
+    report.note(other_orders=orders.counts())
     return 0
 
 
@@ -510,16 +571,17 @@ def say_unlike(report: Report, search: Search) -> None:
         report.say(unlike)
 
 
-def say_orders(report: Report, search: Search, different: int, accepted: Sequence[Report]) -> int:
+def say_orders(report: Report, orders: Orders) -> int:
     """All orders are accepted: these are the reports of some, the first of which is said. Of the others the notes count, and of what YES
     speaks."""
-    for note in notes_of(accepted):
+    search, different = orders.search, len(orders.seen)
+    for note in notes_of(orders.accepted):
         if note not in report.lines:
             report.say(note)
     say_unlike(report, search)
     report.say(f"orders of threads: {search.covered()}; {plural(different, 'different recording')}")
-    report.note(orders=search.most - search.left, recordings=different)
-    say_yes(report, facts_of_all(accepted), "these orders" if search.most_turns else "this run")
+    report.note(orders=search.recorded, recordings=different)
+    say_yes(report, facts_of_all(orders.accepted), "these orders" if search.most_turns else "this run")
     return 0
 
 
@@ -602,7 +664,7 @@ def answer_runs(options: argparse.Namespace, report: Report, px86: Px86, names: 
 def status_of(words: list[str], report: Report) -> int:
     try:
         options = read_options(words)
-        report.as_json = options.json
+        report.as_json, Progress.by_lines = options.json, options.progress
         return join(options.join, report) if options.join is not None else answer_all(options, report)
     except Refused as refused:
         for line in str(refused).splitlines():

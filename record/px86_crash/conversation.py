@@ -8,6 +8,8 @@ The text has 63 lines of eight words, and one with the words `a` and `v`. Some o
 and `v` to a number. Others store `v` to the word at `a`, or flush its line, and all that waits in their store buffers at first. Then it
 leaves them in the order of the list: stores of one processor go in their order, and optimized flushes in any.
 
+`set` tells which of the list have to persist for an image, or that it is none: so a memory that is refused is asked about too.
+
 If there is no conversation, or if it breaks off, there are no answers: then px86 is asked by a text of its own."""
 
 from __future__ import annotations
@@ -19,7 +21,7 @@ import subprocess
 import threading
 from array import array
 from collections import Counter
-from collections.abc import Callable, Iterable, Iterator, Sequence
+from collections.abc import Callable, Iterable, Iterator, Mapping, Sequence
 from functools import lru_cache
 from typing import NamedTuple
 
@@ -90,6 +92,12 @@ class Numbered:
         """The values of the word, by the numbers that were answered."""
         values = list(self.numbers[word])
         return sorted(values[number] for number in answer)
+
+    def image(self, values: Mapping[int, int]) -> dict[int, int] | None:
+        """Which number each word of the text has where those of the list have these values; none if one is no value of its word."""
+        if any(values.get(word) not in numbers for word, numbers in self.numbers.items()):
+            return None
+        return {self.words[word]: numbers[values[word]] for word, numbers in self.numbers.items()}
 
 
 class Changes(Numbered):
@@ -193,11 +201,15 @@ def filling_of(stores: tuple[Entry, ...], flushed: tuple[int, ...]) -> Filling:
     return Filling(stores, flushed)
 
 
+def filled_by(entries: Sequence[Entry]) -> tuple[tuple[Entry, ...], tuple[int, ...]]:
+    """The stores of a list, and the words of its flushes in order."""
+    stores = tuple(entry for entry in entries if entry.number is not None)
+    return stores, tuple(sorted(entry.word for entry in entries if entry.number is None))
+
+
 def steps_of(entries: Sequence[Entry]) -> tuple[list[str], list[str]]:
     """The steps by which a list is made pending: those that fill store buffers, and those by which they are emptied."""
-    stores = tuple(entry for entry in entries if entry.number is not None)
-    flushed = tuple(sorted(entry.word for entry in entries if entry.number is None))
-    filling, leaving = filling_of(stores, flushed), list[str]()
+    filling, leaving = filling_of(*filled_by(entries)), list[str]()
     buffers = {processor: list(words) for processor, words in filling.buffers.items()}
     for entry in entries:
         of_kind = FLUSHING if entry.number is None else STORING
@@ -236,12 +248,32 @@ class Conversation:
                 return None
             return [self.known[key, question] for question in questions]
 
-    def ask(self, key: bytes, entries: Sequence[Entry], questions: Sequence[str], write: Callable[[str, str], str]) -> None:
+    def least_set(self, entries: Sequence[Entry], image: Mapping[int, int], write: Callable[[str, str], str]) -> list[int] | None:
+        """The places in a list of what has to persist for an image, by the numbers of its words. None if it is no image; it fails if
+        there is no conversation."""
+        with self.lock:
+            if self.is_over:
+                raise Failed("there is no conversation")
+            try:
+                self.make_pending(entries, write)
+                self.say([set_of(entries, image)])
+                return self.hear_set()
+            except (OSError, ValueError) as error:
+                self.end()
+                raise Failed("the conversation breaks off") from error
+            except Failed:
+                self.end()
+                raise
+
+    def make_pending(self, entries: Sequence[Entry], write: Callable[[str, str], str]) -> None:
         if self.said > MOST_SAID:
             self.close()
         if self.process is None:
             self.process = self.begin(write("lines.litmus", text_of_lines()))
         self.go_to(*steps_of(entries))
+
+    def ask(self, key: bytes, entries: Sequence[Entry], questions: Sequence[str], write: Callable[[str, str], str]) -> None:
+        self.make_pending(entries, write)
         for some in at_once(questions):
             self.say(some)
             for question in some:
@@ -320,6 +352,21 @@ class Conversation:
             if kind != "value":
                 raise Failed(f"px86 answers {kind} {number}, and not values")
             values.append(int(number))
+
+    def hear_set(self) -> list[int] | None:
+        """The places in the list that leave an image, or none."""
+        heard = self.hear()
+        kind, *places = heard.split(" ")
+        if heard != "no set" and kind != "set":
+            raise Failed(f"px86 answers {heard}, and no set")
+        return None if heard == "no set" else [int(place) for place in places]
+
+
+def set_of(entries: Sequence[Entry], image: Mapping[int, int]) -> str:
+    """The command that asks for the set of an image: each word of the text has a number, the last two those of `a` and `v`."""
+    filling = filling_of(*filled_by(entries))
+    values = [image.get(word, 0) for word in range(MOST_WORDS * MOST_LINES)]
+    return " ".join(map(str, ["set", *values, FIRST_ADDRESS + 8 * filling.address, filling.number]))
 
 
 def same_at_first(some: Sequence[str], others: Sequence[str]) -> int:

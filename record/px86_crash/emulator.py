@@ -53,9 +53,12 @@ class Px86:
             return None, "", f"it does not end in {seconds} seconds"
         return done.returncode, done.stdout, done.stderr.strip().removeprefix("px86: ")
 
-    def report(self, command: str, *words: str, seconds: float | None = None) -> tuple[int | None, dict[str, Any], str]:
-        """The same of a command that takes --json: its report is an object, which is empty where there is a fault."""
-        status, written, said = self.ask(command, "--json", *words, seconds=seconds)
+    def report(
+        self, command: str, *words: str, seconds: float | None = None, explains: bool = False
+    ) -> tuple[int | None, dict[str, Any], str]:
+        """The same of a command that takes --json: its report is an object, which is empty where there is a fault. With `explains` more is
+        said of a fault."""
+        status, written, said = self.ask(*["--explain"] * explains, command, "--json", *words, seconds=seconds)
         told: dict[str, Any] = {}
         try:
             told = json.loads(written)
@@ -136,12 +139,14 @@ class Px86:
 
 
 def fault_in(said: str) -> str:
-    """The text of a fault, of which --json writes an object on the last line; or what is said as it is."""
+    """The text of a fault, of which --json writes an object on the last line, and behind it its explanation, if it has one; or what is
+    said as it is."""
     try:
         fault = json.loads(said.splitlines()[-1])["fault"]
+        text = " ".join(fault[part] for part in ("number", "name", "place") if fault[part] is not None)
     except (IndexError, KeyError, TypeError, ValueError):
         return said
-    return " ".join(fault[part] for part in ("number", "name", "place") if fault[part] is not None)
+    return f"{text}\n{fault.get('explanation') or ''}".rstrip()
 
 
 def replay(recording: Recording, texts: Sequence[Text], finals: Sequence[Sequence[int]]) -> int | None:

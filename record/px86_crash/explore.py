@@ -63,8 +63,8 @@ class Known:
 class Cut(Refused):
     """As much was asked as counts, and nothing of it is bad; but there is more."""
 
-    def __init__(self) -> None:
-        super().__init__("not each memory is asked of")
+    def __init__(self, said: str = "not each memory is asked of") -> None:
+        super().__init__(said)
 
 
 class NotDeterministic(Failed):

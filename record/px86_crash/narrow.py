@@ -2,11 +2,13 @@
 
 from __future__ import annotations
 
+import contextlib
 from collections import Counter
-from collections.abc import Iterable, Sequence
+from collections.abc import Iterable, Mapping, Sequence
 from dataclasses import dataclass, replace
 
 from .answer import Case
+from .conversation import Numbered
 from .explore import Leaf
 from .faults import Failed, TooLarge, plural
 from .memories import Window, whole
@@ -70,7 +72,14 @@ class Narrow:
         text = self.text(leaf.state, self.shown_lines(leaf, memory))
         text.file = self.case.write("bad.litmus", text.litmus(self.case.places))
         values = text.values_of(lambda word: leaf.state.value(word, memory))
-        return Shown(text, 0, values, self.case.write("bad.steps", "".join(step + "\n" for step in text.steps_to(0))))
+        steps = self.case.write("bad.steps", "".join(step + "\n" for step in text.steps_to(0)))
+        if text.contents is not None:
+            return Shown(text, 0, values, steps)
+        persisted = {word: leaf.state.history.value(word, leaf.state.number) for word in text.words}
+        shown = self.shown_by_numbers(text, 0, values, steps, persisted)
+        if shown is None:
+            raise no_memory_of(text)
+        return shown
 
     def shown_lines(self, leaf: Leaf, memory: dict[int, int]) -> list[int]:
         """The lines that were read, those first of which something is lost; so many of them as px86 takes."""
@@ -93,11 +102,33 @@ class Narrow:
         text = text_of_threads(self.case.recording.only(leaf.lines), self.case.names, MOST_INSTRUCTIONS)
         text.file = self.case.write("bad.litmus", text.litmus(self.case.places))
         values = [leaf.state.value(word, memory) for word in text.words]
+        persisted = {word: text.initial.get(word, 0) for word in text.words}
         for look in range(len(text.looks)):
             steps = self.case.write("bad.steps", "".join(step + "\n" for step in text.steps_to(look)))
-            if self.case.px86.is_image(text.file, steps, values):
-                return Shown(text, look, values, steps)
-        raise Failed(f"px86 has not the memory of {text.file} that the checker refuses")
+            shown = self.shown_by_numbers(text, look, values, steps, persisted)
+            if shown is not None:
+                return shown
+        raise no_memory_of(text)
+
+    def shown_by_numbers(
+        self, text: Text, look: int, values: Sequence[int], steps: str, persisted: Mapping[int, int]
+    ) -> Shown | None:
+        """An image of a look, by the conversation, where these words have persisted so; or by the text, if it cannot be asked there.
+        None if it is no image."""
+        numbered, px86 = Numbered(text.looks[look].pending, lambda word: persisted[word]), self.case.px86
+        memory = dict(zip(text.words, values))
+        if any(value != persisted[word] for word, value in memory.items() if word not in numbered.words):
+            return None
+        image = numbered.image(memory)
+        if image is not None and numbered.can_be_asked():
+            with contextlib.suppress(Failed):
+                kept = px86.conversation.least_set(numbered.entries, image, self.case.write)
+                return None if kept is None else Shown(text, look, values, steps, persisted, kept)
+        return Shown(text, look, values, steps) if px86.is_image(text.file, steps, values) else None
+
+
+def no_memory_of(text: Text) -> Failed:
+    return Failed(f"px86 has not the memory of {text.file} that the checker refuses")
 
 
 def limits(operations: Sequence[Operation]) -> str:

@@ -183,7 +183,7 @@ class Questions:
                 progress.done()
                 return Image(text, look, tuple(told["all"]["image"]))
             if status:
-                _, _, said = case.px86.ask("--explain", *words)
+                _, _, said = case.px86.report(*words, explains=True)
                 raise Failed(f"--all: {said}{self.meant_name(said)}")
             true |= values
             progress.at(number)
@@ -467,7 +467,7 @@ class Questions:
             readers = self.readers(stack, "mend", seconds=min(self.options.time, repairs.seconds))
             workers = [Worker(reader, MemoryFile(states[0].history), self.options.check) for reader in readers]
             known = Known() if len(recording.threads) > 1 else None
-            explorer = Explorer(states, workers, Progress("", 0, False), until=repairs.until, known=known)
+            explorer = Explorer(states, workers, Progress("windows with a repair are done", len(states)), until=repairs.until, known=known)
             agreement = Agreement(Branches(Narrow(replace(self.case, recording=recording))), explorer)
             explorer.explore()
             if explorer.bad is not None:
@@ -488,7 +488,8 @@ class Questions:
         folder = self.path("mend")
         folders.make(folder)
         other = Questions(self.options, replace(self.case, recording=recording, folder=folder), Report(is_quiet=True))
-        bad = other.first_bad(in_order(other.case.answer.images), Progress("", 0, False), repairs.until)
+        images = in_order(other.case.answer.images)
+        bad = other.first_bad(images, Progress("memories with a repair are checked", len(images)), repairs.until)
         if bad is None:
             return None
         image, _ = bad

@@ -8,7 +8,7 @@ import shlex
 import subprocess
 import sys
 import time
-from collections.abc import Callable, Iterable, Mapping, Sequence
+from collections.abc import Callable, Collection, Iterable, Mapping, Sequence
 from typing import Any
 
 from .emulator import TOP, Px86
@@ -83,31 +83,55 @@ class Report:
 
 
 class Progress:
-    """Says on a terminal how far it is, and how fast."""
+    """Says how far it is, and how fast: on a terminal in one line, and if it is asked for otherwise in a line now and then."""
 
-    SECONDS = 0.2
+    # How long it waits on a terminal, and otherwise.
+    SECONDS, SECONDS_OF_LINES = 0.2, 2.0
+    # Whether lines are asked for, and when there was one; and what this is a part of.
+    by_lines = False
+    line_at = time.monotonic()
+    within = ""
 
-    def __init__(self, what: str, total: int, is_wanted: bool = True) -> None:
-        self.what, self.total, self.shown = what, total, is_wanted and sys.stderr.isatty()
+    def __init__(self, what: str, total: int = 0, is_wanted: bool = True) -> None:
+        self.what, self.total = what, total
+        self.is_terminal = sys.stderr.isatty()
+        self.shown = is_wanted and (self.is_terminal or self.by_lines)
         self.begun = self.last = time.monotonic()
-        self.show(0, "", 0)
+        if self.is_terminal:
+            self.show(self.counted(0))
+
+    def counted(self, number: int) -> str:
+        return f"{number:,} of {self.total:,} {self.what}"
 
     def at(self, number: int, more: str = "", counted: int | None = None) -> None:
         """So many are done. `counted` is of what a rate is told, if it is not these."""
-        now = time.monotonic()
-        if self.shown and now - self.last >= self.SECONDS:
-            self.last = now
-            self.show(number, more, number if counted is None else counted)
+        if self.is_due():
+            count = number if counted is None else counted
+            rate = f"{count / (self.last - self.begun):,.0f} a second" if count else ""
+            self.show(self.counted(number), more, rate)
 
-    def show(self, number: int, more: str, counted: int) -> None:
+    def goes_on(self, more: str = "") -> None:
+        """The same of what is not counted, but takes some time."""
+        if self.is_due():
+            self.show(f"{self.what}, {self.last - self.begun:,.0f} s", more)
+
+    def is_due(self) -> bool:
+        if not self.shown:
+            return False
+        now = time.monotonic()
+        if now < (self.last + self.SECONDS if self.is_terminal else Progress.line_at + self.SECONDS_OF_LINES):
+            return False
+        self.last = Progress.line_at = now
+        return True
+
+    def show(self, *said: str) -> None:
         if self.shown:
-            said = [f"{number:,} of {self.total:,} {self.what}", more]
-            if counted:
-                said.append(f"{counted / (self.last - self.begun):,.0f} a second")
-            print(f"\r\033[K{', '.join(filter(None, said))}", end="", file=sys.stderr, flush=True)
+            line = ", ".join(filter(None, (*said, self.within)))
+            line = f"\r\033[K{line}" if self.is_terminal else f"px86-crash: {line}\n"
+            print(line, end="", file=sys.stderr, flush=True)
 
     def done(self) -> None:
-        if self.shown:
+        if self.shown and self.is_terminal:
             print("\r\033[K", end="", file=sys.stderr, flush=True)
 
 
@@ -212,19 +236,32 @@ def say_not_followed(report: Report, facts: Mapping[str, int], what: str) -> Non
 
 
 class Shown:
-    """An image of a text that is not accepted: the steps to its memory, and the values of the text's words."""
+    """An image of a text that is not accepted: the steps to its memory, and the values of the text's words. If it is known already, what
+    its words have persisted with, and which of the pending list have to persist, by px86."""
 
-    def __init__(self, text: Text, look: int, values: Sequence[int], steps_file: str) -> None:
+    def __init__(
+        self,
+        text: Text,
+        look: int,
+        values: Sequence[int],
+        steps_file: str,
+        persisted: Mapping[int, int] | None = None,
+        kept: Collection[int] | None = None,
+    ) -> None:
         self.text, self.values, self.steps_file = text, values, steps_file
         self.pending: list[Operation] = text.looks[look].pending
+        self.persisted, self.kept = persisted, kept
 
     def stores(self, px86: Px86, asked: Iterable[int]) -> tuple[list[Operation], list[Operation]]:
         """The lost and the kept stores. Of the lost ones those stand first whose words were asked for, as they were asked for."""
         text = self.text
-        kept = px86.least_set(text.file, self.steps_file, self.values)
+        kept = px86.least_set(text.file, self.steps_file, self.values) if self.kept is None else self.kept
+        persisted = self.persisted
+        if persisted is None:
+            persisted = dict(zip(text.words, px86.persisted(text.file, self.steps_file)))
         stores = [(place, operation) for place, operation in enumerate(self.pending) if operation.stores]
         last = max((place for place, _ in stores if place in kept), default=len(self.pending))
-        changing = changing_stores(self.pending, dict(zip(text.words, px86.persisted(text.file, self.steps_file))))
+        changing = changing_stores(self.pending, persisted)
         lost = [store for place, store in stores if place not in kept and place < last and place in changing]
         were_asked = {word: place for place, word in enumerate(asked)}
         kept_stores = [store for place, store in stores if place in kept]
@@ -349,7 +386,8 @@ def say_stores(
         # That a store is never flushed tells why it is lost, and of one that is kept nothing.
         note = "" if what == "kept" and store.note == NEVER_FLUSHED else store.note
         function = places.function(store.place)
-        said = [places.of(store.place), f"in {function}" if function else "", note]
+        thread = f"thread {store.thread}" if len(text.threads) > 1 else ""
+        said = [thread, places.of(store.place), f"in {function}" if function else "", note]
         report.say(f"  {what} {name_of(store, text, places)} = {value}, {', '.join(filter(None, said))}")
     if len(stores) > MOST_STORES:
         report.say(f"  {what} {len(stores) - MOST_STORES} more {'behind' if is_first else 'before'} them")
@@ -367,6 +405,7 @@ def facts_of(store: Operation, text: Text, places: Places) -> dict[str, Any]:
         "field": field_of(store, text, places),
         "offset": store.word,
         "value": store.value,
+        "thread": store.thread,
         "place": places.of(store.place),
         "function": places.function(store.place),
         "never_flushed": NEVER_FLUSHED in store.note,

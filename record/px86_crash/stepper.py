@@ -2,6 +2,7 @@
 
 from __future__ import annotations
 
+import contextlib
 import glob
 import os
 import select
@@ -9,8 +10,10 @@ import shutil
 import stat
 import subprocess
 from collections.abc import Iterator, Mapping, Sequence
+from typing import IO
 
 from .faults import Failed, Refused
+from .report import Progress
 
 HERE = os.path.dirname(os.path.dirname(os.path.abspath(__file__)))
 RECORDER = os.path.join(HERE, "out", "px86-record")
@@ -123,8 +126,33 @@ def remove_log(log: str) -> None:
         os.remove(path)
 
 
-def record(log: str, words: Sequence[str], options: Sequence[str], output: str) -> None:
-    """Records a program. `options` are those of px86-record; the program's standard output goes to the file `output`."""
+def watched(words: Sequence[str], output: IO[bytes], log: str, is_told: bool) -> int:
+    """The status of a program that makes a log. It is told how far it is."""
+    progress = Progress("the program is recorded", is_wanted=is_told)
+    with subprocess.Popen(words, stdout=output) as process:
+        try:
+            while progress.shown and process.poll() is None:
+                with contextlib.suppress(subprocess.TimeoutExpired):
+                    process.wait(Progress.SECONDS)
+                progress.goes_on(f"{size_of(log):,} bytes of log")
+            process.wait()
+        except BaseException:
+            process.kill()
+            raise
+    progress.done()
+    return process.returncode
+
+
+def size_of(path: str) -> int:
+    try:
+        return os.stat(path).st_size
+    except OSError:
+        return 0
+
+
+def record(log: str, words: Sequence[str], options: Sequence[str], output: str, is_told: bool = False) -> None:
+    """Records a program. `options` are those of px86-record; the program's standard output goes to the file `output`. With `is_told` it
+    is said how far it is."""
     if not os.access(RECORDER, os.X_OK):
         raise Failed(f"there is no {os.path.relpath(RECORDER)}: make it by {os.path.relpath(os.path.join(HERE, 'build'))}")
     if shutil.which(words[0]) is None:
@@ -132,7 +160,7 @@ def record(log: str, words: Sequence[str], options: Sequence[str], output: str) 
     remove_log(log)
     try:
         with open(output, "wb") as file:
-            status = subprocess.run([RECORDER, "-o", log, *options, "--", *words], stdout=file, check=False).returncode
+            status = watched([RECORDER, "-o", log, *options, "--", *words], file, log, is_told)
     except OSError as error:
         raise Failed(f"{error.filename}: {error.strerror}") from error
     if status == NOT_PLAYED:

@@ -6,9 +6,11 @@ That these looks have all images of the order is tested (tools/recording-model w
 
 from __future__ import annotations
 
+import math
 import os
 from collections import Counter
 from collections.abc import Collection, Sequence
+from dataclasses import dataclass, field
 
 from .faults import Refused
 from .memories import MOST_CANDIDATES, candidates
@@ -105,26 +107,53 @@ def late_run(operations: Sequence[Operation], threads: Sequence[int], choices: S
     return run
 
 
+@dataclass
+class Behind:
+    """What stands behind a place in what a thread does, as the numbers of operations; those that are not there are infinite."""
+
+    # The next store, or operation elsewhere: fences and flushes that are ordered before it take effect at last there.
+    store: float = math.inf
+    # The next operation that everything before it waits for at last.
+    all_before: float = math.inf
+    # Where the next fence takes effect at last, and so all optimized flushes before it.
+    fence: float = math.inf
+    # Of each line, where the next flush that optimized flushes of it wait for takes effect at last.
+    flushes: dict[int, float] = field(default_factory=dict)
+    # Of each line, where its next flush takes effect at last.
+    last: dict[int, float] = field(default_factory=dict)
+    is_fence: bool = False
+
+    def at_last(self, flush: Operation) -> float:
+        """Where a flush takes effect at last."""
+        if flush.kind is Kind.FLUSH:
+            return min(self.store, self.all_before)
+        return min(self.fence, self.all_before, self.flushes.get(flush.line, math.inf))
+
+
 def without_repeated_flushes(operations: Sequence[Operation]) -> list[Operation]:
-    """Without each optimized flush that may wait for another flush of its line, which follows by the same thread, and then changes
-    nothing: that stands before the thread's next fence, or is the first that it does behind it. So of a loop that flushes and fences
-    while it waits for another thread one turn is left. Of fences with nothing between them one is left."""
-    again: dict[int, set[int]] = {}
-    behind: dict[int, Operation] = {}
+    """Without each optimized flush behind which another one of its line stands, by the same thread, that takes effect at last at the
+    same place. It may wait for that one, and then changes nothing. So of a loop that flushes lines and fences while it waits for another
+    thread one turn is left. Of fences with nothing between them one is left."""
+    threads: dict[int, Behind] = {}
     left: list[Operation] = []
-    for operation in reversed(operations):
-        lines, later = again.setdefault(operation.thread, set()), behind.get(operation.thread)
-        if operation.kind is Kind.OPTIMIZED_FLUSH and operation.line in lines:
-            continue
-        if operation.kind is Kind.STORE_FENCE and later is not None and later.kind is Kind.STORE_FENCE:
-            continue
-        if operation.fences or operation.kind is Kind.LOCKED:
-            lines.clear()
-            if operation.kind is Kind.STORE_FENCE and later is not None and later.flushes:
-                lines.add(later.line)
+    for number, operation in zip(range(len(operations) - 1, -1, -1), reversed(operations)):
+        behind = threads.setdefault(operation.thread, Behind())
         if operation.flushes:
-            lines.add(operation.line)
-        behind[operation.thread] = operation
+            place = behind.at_last(operation)
+            if operation.kind is Kind.OPTIMIZED_FLUSH and behind.last.get(operation.line) == place:
+                continue
+            behind.last[operation.line] = place
+            if operation.kind is Kind.FLUSH:
+                behind.flushes[operation.line] = place
+        elif operation.kind is Kind.STORE_FENCE:
+            if behind.is_fence:
+                continue
+            behind.fence = min(behind.store, behind.all_before)
+        elif operation.kind in (Kind.LOCKED, Kind.FULL_FENCE):
+            behind.all_before = number
+        else:
+            behind.store = number
+        behind.is_fence = operation.kind is Kind.STORE_FENCE
         left.append(operation)
     return left[::-1]
 

@@ -13,7 +13,7 @@ from unittest import mock
 sys.dont_write_bytecode = True
 sys.path.insert(0, os.path.dirname(os.path.dirname(os.path.abspath(__file__))))
 
-from px86_crash.command import BOUND_BY_DEFAULT, ONE_ORDER, answer_by_default, answer_orders, key_of
+from px86_crash.command import BOUND_BY_DEFAULT, ONE_ORDER, Run, answer_by_default, answer_orders, key_of
 from px86_crash.explore import Bound, Cut
 from px86_crash.faults import Failed, Refused
 from px86_crash.promises import Promises
@@ -111,14 +111,14 @@ class RefusedOrdersTest(unittest.TestCase):
     def test_no_yes_beside_one_that_is_refused(self) -> None:
         with self.assertRaises(Refused) as refused:
             self.status_of(None, 0, 0)
-        said = "too many ways\nthat is so of 1 recording; what is asked holds in 2 other recordings, the one with no forced switch"
-        self.assertTrue(str(refused.exception).startswith(said), refused.exception)
+        said = "too many ways\nthat is so of 1 recording; what is asked holds in 2 other recordings\norders of threads that were recorded: "
+        self.assertEqual(str(refused.exception), said + "the one with no forced switch, all 2 with one, 0 of 1 with two")
 
 
 class DefaultTest(unittest.TestCase):
     """A program of which nothing says in which order its threads run: the order that chance gives, and then others."""
 
-    def answer(self, threads: int, first: int, *others: Any, turns: int = 30) -> tuple[int, list[str]]:
+    def answer(self, threads: int, first: int | Exception, *others: Any, turns: int = 30) -> tuple[int, list[str]]:
         """The status, and what is said, where this is the answer of each order: a status, or what is raised."""
         left, report = list(others), Report(is_quiet=True)
         made: list[Any] = []
@@ -142,6 +142,8 @@ class DefaultTest(unittest.TestCase):
             made[-1].report.say("recorded")
             if threads > 1:
                 made[-1].report.say(ONE_ORDER)
+            if isinstance(first, Exception):
+                raise first
             if first:
                 made[-1].report.say("NO: a bad one")
             else:
@@ -166,6 +168,7 @@ class DefaultTest(unittest.TestCase):
         patched = {"threads_of": lambda log: threads, "read_turns": lambda path: [turn] * turns}
         with mock.patch.multiple("px86_crash.command", **patched):
             with mock.patch("px86_crash.command.stepper.is_input_there_again", lambda: self.is_input_there_again):
+                self.report = report
                 status = answer_by_default(options, report, make_run)
         self.facts = report.facts
         self.assertEqual(bounds, [None, *([BOUND_BY_DEFAULT] * (len(bounds) - 1))])
@@ -229,6 +232,38 @@ class DefaultTest(unittest.TestCase):
             # Behind one that hangs no other is recorded.
             is_last = isinstance(fault, NotRecorded) and not isinstance(fault, NotPlayed)
             self.assertEqual(self.answer(2, 0, 0, fault, 1)[0], 0 if is_last else 1)
+
+    def test_a_first_one_that_is_refused(self) -> None:
+        """The others are asked all the same. A NO of one counts; otherwise it is refused, and it is said which orders are accepted."""
+        status, lines = self.answer(2, TooManyWays("too many"), 0, 1)
+        self.assertEqual((status, lines[0], lines[-1]), (1, "NO: a worse one", "note: the order that chance gave is refused: too many"))
+        for others, said in (
+            ((), "that is so of 1 recording; what is asked holds in 16 other recordings"),
+            ((0, Cut("x")), "that is so of 1 recording; what is asked holds in 15 other recordings, and in some memories of 1 more"),
+            ((Refused("y"),), "that is so of 2 recordings; what is asked holds in 15 other recordings"),
+        ):
+            with self.assertRaises(Refused) as refused:
+                self.answer(2, TooManyWays("too many\nof them"), *others)
+            covered = "the one by chance, the one with no forced switch, 15 of 30 with one"
+            wanted = ["too many", "of them", said, f"orders of threads that were recorded: {covered}"]
+            self.assertEqual(str(refused.exception).split(", 0 of ")[0].splitlines(), wanted)
+            self.assertEqual(self.report.lines, ["recorded"])
+            counts = {"in_part": "some" in said, "refused": 1 + (len(others) == 1), "not_played": 0}
+            self.assertEqual(self.report.facts["other_orders"], counts)
+
+    def test_all_are_refused(self) -> None:
+        with self.assertRaises(Refused) as refused:
+            self.answer(2, Refused("no"), *(Refused("no") for _ in range(ORDERS_BY_DEFAULT)))
+        self.assertTrue(str(refused.exception).startswith("no\nthat is so of each order that was recorded: the one by chance, "))
+
+    def test_the_order_of_what_is_refused_is_said(self) -> None:
+        """Of what is asked in part too: that is no fault of px86-crash itself."""
+        for fault in (Cut(), Refused("x"), TooManyWays("x"), Failed("x")):
+            run = Run.__new__(Run)
+            with mock.patch.object(Run, "ask", side_effect=fault), self.assertRaises((Refused, Failed)) as raised:
+                run.ask_order("log", "1:2", set())
+            self.assertEqual(isinstance(raised.exception, Cut), isinstance(fault, Cut))
+            self.assertEqual(str(raised.exception), f"{fault}\nin the order --schedule 1:2")
 
     def test_a_fault_of_another_one(self) -> None:
         with self.assertRaises(Failed):

@@ -3,8 +3,11 @@ tests/recording. A script answers in place of px86."""
 
 from __future__ import annotations
 
+import contextlib
+import io
 import json
 import os
+import re
 import shlex
 import sys
 import tempfile
@@ -22,7 +25,7 @@ from px86_crash.emulator import Px86, fault_in
 from px86_crash.faults import Failed
 from px86_crash.questions import Acceptance, asked_words, meant_by_name
 from px86_crash.recording import Kind, Operation
-from px86_crash.report import Report, Shown, draw, say_image, stored_by
+from px86_crash.report import Progress, Report, Shown, draw, say_image, stored_by
 from px86_crash.text import Look, Names, Text
 
 PLACES: Any = SimpleNamespace(of=lambda place: f"a.c:{place}", function=lambda place: None, fields=SimpleNamespace(of=lambda word: None))
@@ -113,6 +116,28 @@ class LostStores(unittest.TestCase):
         self.assertEqual(stored_by(stored(0x40, 7, 1), self.text), {0x40: 7})
 
 
+class Lines(unittest.TestCase):
+    """How far it is, where standard error is no terminal."""
+
+    def told(self, by_lines: bool, seconds: float = 0.0) -> str:
+        said = io.StringIO()
+        with mock.patch.multiple(Progress, by_lines=by_lines, within="order 3 of 17", SECONDS_OF_LINES=seconds):
+            with contextlib.redirect_stderr(said):
+                progress = Progress("windows are done", 1200)
+                progress.at(1000, "12 runs")
+                progress.goes_on("5 bytes")
+                progress.done()
+        return re.sub("[0-9,]+ a second", "N a second", said.getvalue())
+
+    def test_if_they_are_asked_for(self) -> None:
+        lines = ["1,000 of 1,200 windows are done, 12 runs, N a second, order 3 of 17", "windows are done, 0 s, 5 bytes, order 3 of 17"]
+        self.assertEqual(self.told(True).splitlines(), [f"px86-crash: {line}" for line in lines])
+        self.assertEqual(self.told(False), "")
+
+    def test_they_come_now_and_then(self) -> None:
+        self.assertEqual(self.told(True, 60.0), "")
+
+
 class Conditions(unittest.TestCase):
     def test_words_in_order(self) -> None:
         condition = "persisted w40 = 1 or not (persisted tail = 0 and persisted w40 = 2) or persisted w7 = 1 or persisted w1000 = 1"
@@ -166,6 +191,8 @@ class Json(unittest.TestCase):
     def test_faults(self) -> None:
         fault = json.dumps({"fault": {"name": "BadCond", "number": "E1", "place": "4", "sentence": "E1: a token."}})
         self.assertEqual(fault_in(fault), "E1 BadCond 4")
+        explained = fault.replace('"sentence"', '"explanation": "--all | x y\\n      | ^\\nE1: a token.\\n", "sentence"')
+        self.assertEqual(fault_in(explained), "E1 BadCond 4\n--all | x y\n      | ^\nE1: a token.")
         no_place = fault.replace('"4"', "null")
         self.assertEqual(fault_in(f"px86: 11 states were found and 7 explored\n{no_place}"), "E1 BadCond")
         for said in "", "X1 BadWord line 4", "[1]", '{"other": 1}':
