@@ -4,8 +4,9 @@ use Rattle.std.proofs.lemmas.Bool.{cases_Bool, lt-ltb}
 use Rattle.std.proofs.lemmas.Bool.Decides.{nat_tests}
 use Rattle.std.specs.Prelude.{IfErr, OnErr, OnOk, nat_lt, ◌↔◌}
 use Rattle.machine.proofs.RunIsAPrefix.{run_shape}
-use Rattle.lines_layout.specs.Layouts.{NamedLines}
+use Rattle.litmus_text.specs.declared.text_lines.LinedObject.{LinedObject}
 use Rattle.machine.specs.declared.step.Step.{Step}
+use Rattle.explore.specs.Falls.{fall_at}
 use Rattle.debugger.specs.Halts.{HaltsAt, halt_of, made}
 use Rattle.debugger.specs.declared.halt.Halt.{Halt}
 use Rattle.debugger.specs.declared.halt.Halt.TheVariants as halts
@@ -22,7 +23,6 @@ use Rattle.conversations.specs.declared.asked.Asked.{Asked}
 use Rattle.conversations.specs.declared.line_fault.LineFault.{LineFault}
 use Rattle.conversations.specs.Asking.{asked_of}
 use Rattle.conversations.specs.Desks.{Declaration}
-use Rattle.conversations.specs.Imaged.{crash_behind}
 use Rattle.conversations.specs.Answered.{Answer, KeepsShape, Place, made_at, answer, answer_to, answered, crashed_at, gone_to, no_step_line, partner, picked_at, place, unmade_at}
 use Rattle.conversations.specs.Turning.{Replies, TellsMore, may_go_on}
 
@@ -57,7 +57,7 @@ none_picked v n found text is written a ds = ap (answer (place v a ds)) written 
 
 -- the crash leaves an image
 pub crashed_so : {E : Type 0} (v w : SessionValue) (found : Option (List ℕ)) (places : List ℕ) (text : List ℕ) (r : Result (Unit {0}) E) → found ≡ Some places
-    → OnOk r ((a : Ahead) (ds : List Declaration) → answer (place w a ds) text ≡ made_at (place v a ds) (crash_behind v.past.state places))
+    → OnOk r ((a : Ahead) (ds : List Declaration) → answer (place w a ds) text ≡ made_at (place v a ds) (fall_at v.past.state.memory.pending places))
     → OnOk r ((a : Ahead) (ds : List Declaration) → answer (place w a ds) text ≡ crashed_at (place v a ds) found)
 crashed_so v w found places text (Err refused) is made = tt
 crashed_so v w found places text (Ok told) is made = λ a ds. made a ds ∙ ap (crashed_at (place v a ds)) (sym is)
@@ -119,17 +119,17 @@ replied Went x q may text bytes (Err talk_faults.TooLong) is written never = abs
 replied Went x q may text bytes (Err talk_faults.NoMemory) is written never = absurd never
 
 -- it is the answer to the line that asks this
-pub answers_line : (names : NamedLines) (Went : List Event → Type 0) (p q : Place) (is_fed : Bool) (line : List ℕ) (asked : Result Asked LineFault) (r : Result Bool TalkFault)
-    → asked_of names line ≡ asked → Replies Went (answered names p line asked) q (may_go_on is_fed line) r → Answers (partner names) Went p q is_fed line r
-answers_line names Went p q is_fed line asked (Ok more) is (went, next, so) =
-    let e : answered names p line asked ≡ answer_to names p line = ap (answered names p line) (sym is) in
+pub answers_line : (lined : LinedObject) (Went : List Event → Type 0) (p q : Place) (is_fed : Bool) (line : List ℕ) (asked : Result Asked LineFault) (r : Result Bool TalkFault)
+    → asked_of lined.object.layout line ≡ asked → Replies Went (answered lined p line asked) q (may_go_on is_fed line) r → Answers (partner lined) Went p q is_fed line r
+answers_line lined Went p q is_fed line asked (Ok more) is (went, next, so) =
+    let e : answered lined p line asked ≡ answer_to lined p line = ap (answered lined p line) (sym is) in
     (subst (λ (x : Answer). Went (told x.text)) e went, next ∙ ap (λ (x : Answer). x.place) e, so)
-answers_line names Went p q is_fed line asked (Err talk_faults.WriteFailed) is ((n, went), next) =
-    let e : answered names p line asked ≡ answer_to names p line = ap (answered names p line) (sym is) in
+answers_line lined Went p q is_fed line asked (Err talk_faults.WriteFailed) is ((n, went), next) =
+    let e : answered lined p line asked ≡ answer_to lined p line = ap (answered lined p line) (sym is) in
     ((n, subst (λ (x : Answer). Went (told (take n x.text) ++ WriteFailed ∷ [])) e went), next ∙ ap (λ (x : Answer). x.place) e)
-answers_line names Went p q is_fed line asked (Err talk_faults.ReadFailed) is never = absurd never
-answers_line names Went p q is_fed line asked (Err talk_faults.TooLong) is never = absurd never
-answers_line names Went p q is_fed line asked (Err talk_faults.NoMemory) is nothing = nothing
+answers_line lined Went p q is_fed line asked (Err talk_faults.ReadFailed) is never = absurd never
+answers_line lined Went p q is_fed line asked (Err talk_faults.TooLong) is never = absurd never
+answers_line lined Went p q is_fed line asked (Err talk_faults.NoMemory) is nothing = nothing
 
 -- what holds beside any steps ahead and any lines holds beside these
 pub beside : {E : Type 0} (X : Ahead → List Declaration → Type 0) (r : Result (Unit {0}) E) (a : Ahead) (ds : List Declaration) → OnOk r ((a : Ahead) (ds : List Declaration) → X a ds) → OnOk r (X a ds)

@@ -194,6 +194,7 @@ lone_of line =
     else if is_word line (codes "info") then Some orders.Info
     else if is_word line (codes "history") then Some orders.History
     else if is_word line (codes "reverse") then Some orders.Reverse
+    else if is_word line (codes "list") then Some orders.List
     else None
 
 -- what a line orders whose first piece is a word that has more behind it, or a number
@@ -231,6 +232,12 @@ set_as names text = do
   image ← image_as names text
   Ok (orders.Set image)
 
+-- what comes after `why` orders: which writes are missing in these values
+unfoldable pub why_as : NamedLines → List ℕ → Result Order LineFault
+why_as names text = do
+  image ← image_as names text
+  Ok (orders.Why image)
+
 -- what comes after `crash` orders, if anything does: a crash is to leave these values
 unfoldable pub crash_as : NamedLines → List ℕ → Result Order LineFault
 crash_as names text = do
@@ -242,6 +249,7 @@ abbrev pub imaged_of : NamedLines → List ℕ × List ℕ → Result Order Line
 imaged_of names piece =
     if bytes_eq piece.0 (codes "all") then all_as names piece.1
     else if bytes_eq piece.0 (codes "set") then set_as names piece.1
+    else if bytes_eq piece.0 (codes "why") then why_as names piece.1
     else if bytes_eq piece.0 (codes "crash") then crash_as names piece.1
     else worded_of names piece
 

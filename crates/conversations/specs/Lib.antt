@@ -1,11 +1,13 @@
 pub mod Answered
 pub mod Asking
 pub mod Conversing
+pub mod Crashing
 pub mod Desks
 pub mod Eager
 pub mod HelpTexts
 pub mod Imaged
 pub mod LineFaults
+pub mod Listed
 pub mod Printed
 pub mod Reversing
 pub mod SameText

@@ -1,6 +1,7 @@
 -- One turn of a conversation: a line is asked for and read, and then it is answered.
 use Rattle.std.specs.Prelude.{◌≡◌, ℕ, ◌∷◌, [], ◌++◌, ◌&&◌, List, Bool, false, not, codes, take, Result, Ok, Err}
 use Rattle.lines_layout.specs.Layouts.{NamedLines}
+use Rattle.litmus_text.specs.declared.text_lines.LinedObject.{LinedObject}
 use Rattle.talks.specs.declared.fault.TalkFault.{TalkFault}
 use Rattle.talks.specs.declared.fault.TalkFault.TheVariants as faults
 use Rattle.talks.specs.declared.line.Line.{Line}
@@ -22,15 +23,15 @@ IsRead names line (Err fault) = fault ≡ faults.NoMemory
 
 -- What goes on up to where it is known what a line asks: it is heard, and asks this; or there is no line more; or the conversation
 -- breaks off.
-abbrev pub Asks : NamedLines → (List Event → Type 0) → ℕ → ℕ → Result Heard TalkFault → Type 0
-Asks names Went old new (Ok hears.Nothing) = (p : Place) → Turns (partner names) Went p p old new (Ok false)
-Asks names Went old new (Ok (hears.Stop line id asked cond)) =
-    HasHeard (partner names) Went old new line.is_fed line.bytes.items × (asked_of names line.bytes.items ≡ Ok (asks.Stop id cond)) × (asked ≡ cond)
-Asks names Went old new (Ok (hears.Watch line order)) =
-    HasHeard (partner names) Went old new line.is_fed line.bytes.items × (asked_of names line.bytes.items ≡ Ok (asks.Watch order))
-Asks names Went old new (Ok (hears.Other line order)) =
-    HasHeard (partner names) Went old new line.is_fed line.bytes.items × (asked_of names line.bytes.items ≡ as_asked order)
-Asks names Went old new (Err fault) = (p : Place) → Turns (partner names) Went p p old new (Err fault)
+abbrev pub Asks : LinedObject → (List Event → Type 0) → ℕ → ℕ → Result Heard TalkFault → Type 0
+Asks lined Went old new (Ok hears.Nothing) = (p : Place) → Turns (partner lined) Went p p old new (Ok false)
+Asks lined Went old new (Ok (hears.Stop line id asked cond)) =
+    HasHeard (partner lined) Went old new line.is_fed line.bytes.items × (asked_of lined.object.layout line.bytes.items ≡ Ok (asks.Stop id cond)) × (asked ≡ cond)
+Asks lined Went old new (Ok (hears.Watch line order)) =
+    HasHeard (partner lined) Went old new line.is_fed line.bytes.items × (asked_of lined.object.layout line.bytes.items ≡ Ok (asks.Watch order))
+Asks lined Went old new (Ok (hears.Other line order)) =
+    HasHeard (partner lined) Went old new line.is_fed line.bytes.items × (asked_of lined.object.layout line.bytes.items ≡ as_asked order)
+Asks lined Went old new (Err fault) = (p : Place) → Turns (partner lined) Went p p old new (Err fault)
 
 -- An answer is told, which leads to its place, and it is said whether there may be more. Without memory nothing is told.
 abbrev pub Replies : (List Event → Type 0) → Answer → Place → Bool → Result Bool TalkFault → Type 0

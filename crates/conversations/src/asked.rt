@@ -3,7 +3,7 @@ ghost use Rattle.outcomes.specs.Calls.{Answers};
 ghost use Rattle.outcomes.specs.Faults.{fault_in};
 ghost use Rattle.text_tokens.specs.Cursors.{unread};
 ghost use Rattle.debug_scripts.specs.ReadRows.{said};
-ghost use Rattle.conversations.specs.Asking.{all_as, asked_as, asked_of, as_asked, crash_as, image_as, imaged_of, own_of, set_as, stop_as, values_as};
+ghost use Rattle.conversations.specs.Asking.{all_as, asked_as, asked_of, as_asked, crash_as, image_as, imaged_of, own_of, set_as, stop_as, values_as, why_as};
 
 use crate::help::Word;
 use crate::line_fault::LineFault;
@@ -54,6 +54,8 @@ pub enum Order {
     Goto(u32),
     /// Steps are taken back, and their notes, up to the last state behind in which the condition of a stop holds.
     Reverse,
+    /// The program that each processor runs, and where it is.
+    List,
     /// The steps that may come next.
     Next,
     /// The step of this number among those is made, by itself.
@@ -66,6 +68,8 @@ pub enum Order {
     All(Cond),
     /// Which pending entries leave an image.
     Set(Image),
+    /// Which writes are missing in an image, and why each may be.
+    Why(Image),
     /// What leaves an image persists, and then there is a crash, unless a stop comes before.
     CrashTo(Image),
     /// The lines that declared stops and watches.
@@ -170,6 +174,17 @@ fn set_as(alloc: Global, layout: &Layout, text: &[u8]) -> Result<Order, OrNoMemo
     }
 }
 
+/// What comes after `why` orders.
+#[tactic(auto, unfolding(crate::specs::Asking::why_as))]
+fn why_as(alloc: Global, layout: &Layout, text: &[u8]) -> Result<Order, OrNoMemory<LineFault>>
+    ensures { Answers fault_in (why_as layout.now text.now) result }
+{
+    match image_as(alloc, layout, text) {
+        Ok(image) => Ok(Order::Why(image)),
+        Err(error) => Err(error),
+    }
+}
+
 /// What comes after `crash` orders, if anything does.
 #[tactic(auto, unfolding(crate::specs::Asking::crash_as))]
 fn crash_as(alloc: Global, layout: &Layout, text: &[u8]) -> Result<Order, OrNoMemory<LineFault>>
@@ -195,6 +210,9 @@ fn imaged_in(
     }
     if first == b"set".as_slice() {
         return set_as(alloc, layout, behind);
+    }
+    if first == b"why".as_slice() {
+        return why_as(alloc, layout, behind);
     }
     if first == b"crash".as_slice() {
         return crash_as(alloc, layout, behind);

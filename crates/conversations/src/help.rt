@@ -32,10 +32,12 @@ pub enum Word {
     Goto,
     Reverse,
     Show,
+    List,
     Print,
     Images,
     All,
     Set,
+    Why,
     Values,
     Notes,
     History,
@@ -44,7 +46,7 @@ pub enum Word {
 }
 
 /// How many words begin a line.
-const COUNT: usize = 33;
+const COUNT: usize = 35;
 
 /// These words, in the order in which they are told.
 const WORDS: [Word; COUNT] = [
@@ -72,10 +74,12 @@ const WORDS: [Word; COUNT] = [
     Word::Goto,
     Word::Reverse,
     Word::Show,
+    Word::List,
     Word::Print,
     Word::Images,
     Word::All,
     Word::Set,
+    Word::Why,
     Word::Values,
     Word::Notes,
     Word::History,
@@ -129,6 +133,8 @@ impl Word {
             Word::Reverse =>
                 "reverse             goes back, as undo does, to the last state behind in which a stop's condition holds, or to the beginning",
             Word::Show => "show                prints the machine's state",
+            Word::List =>
+                "list                prints the program that each processor runs, with > before the place where it is",
             Word::Print =>
                 "print NAME          prints the values of a word; print P:REG the value of a register",
             Word::Images => "images              lists what a crash may leave",
@@ -136,6 +142,8 @@ impl Word {
                 "all COND            says whether COND holds in all that a crash may leave, and if not, where it does not, as images --all does",
             Word::Set =>
                 "set V ..            prints which pending entries leave these values, one for each word, as images --set does",
+            Word::Why =>
+                "why V ..            says which writes are missing where a crash leaves these values, and why each may be, as images --set --explain-image does",
             Word::Values =>
                 "values NAME [NAME=V ..]   lists the values that a word may then have, where others have these",
             Word::Notes => "notes               prints the notes of each watch",

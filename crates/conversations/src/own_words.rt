@@ -274,6 +274,8 @@ pub(crate) fn lone_in(line: &[u8]) -> Option<Order>
         Some(Order::History)
     } else if is_word(line, b"reverse") {
         Some(Order::Reverse)
+    } else if is_word(line, b"list") {
+        Some(Order::List)
     } else {
         None
     }

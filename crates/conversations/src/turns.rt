@@ -22,6 +22,7 @@ use commands::MAX_INPUT;
 use debugger::{Attached, Session, Stop, Watcher, WordWatch};
 use images::holds;
 use lines_layout::{Layout, WordId};
+use litmus_text::LinedObject;
 use machine::Machine;
 use outcomes::OrNoMemory;
 use std::alloc::Global;
@@ -67,12 +68,12 @@ fn read(alloc: Global, layout: &Layout, line: Line) -> Result<Heard, TalkFault>
 /// As of [`talk`].
 fn ask<T: Terminal>(
     alloc: Global,
-    layout: &Layout,
+    lined: &LinedObject,
     terminal: &mut T,
     left: &mut usize,
 ) -> Result<Heard, TalkFault>
     requires { T.is_ready terminal.old }
-    ensures went { Asks layout.now (T.went terminal.old terminal.new) left.old left.new result }
+    ensures went { Asks lined.now (T.went terminal.old terminal.new) left.old left.new result }
     ensures ready { OnOk result (T.is_ready terminal.new) }
 {
     say(terminal, b"px86> ")?;
@@ -80,7 +81,7 @@ fn ask<T: Terminal>(
     if is_nothing(&line) {
         return Ok(Heard::Nothing);
     }
-    read(alloc, layout, line)
+    read(alloc, lined.object.layout(), line)
 }
 
 /// Writes the answer to a line. Whether there may be more.
@@ -166,7 +167,7 @@ fn reply_watch<T: Terminal>(
 ///
 /// [`TalkFault::NoMemory`], and then nothing is written; [`TalkFault::WriteFailed`].
 fn reply<T: Terminal>(
-    layout: &Layout,
+    lined: &LinedObject,
     terminal: &mut T,
     session: &mut Session,
     desk: &mut Desk,
@@ -174,14 +175,14 @@ fn reply<T: Terminal>(
     order: Result<Order, LineFault>,
 ) -> Result<bool, TalkFault>
     requires ready { T.is_ready terminal.old }
-    requires shape { HasShape layout.now (session_value meaning_of session.old) }
-    ensures went { Replies (T.went terminal.old terminal.new) (answered layout.now (place_by meaning_of session.old desk.old) line.bytes.items (as_asked order))
+    requires shape { HasShape lined.now.object.layout (session_value meaning_of session.old) }
+    ensures went { Replies (T.went terminal.old terminal.new) (answered lined.now (place_by meaning_of session.old desk.old) line.bytes.items (as_asked order))
         (place_by meaning_of session.new desk.new) (may_go_on line.is_fed line.bytes.items) result }
     ensures ready { OnOk result (T.is_ready terminal.new) }
-    ensures shape { OnOk result (HasShape layout.now (session_value meaning_of session.new)) }
+    ensures shape { OnOk result (HasShape lined.now.object.layout (session_value meaning_of session.new)) }
 {
     let mut text = String::new(desk.alloc);
-    match answer(layout, session, desk, &mut text, &line, &order) {
+    match answer(lined, session, desk, &mut text, &line, &order) {
         Ok(()) => tell(terminal, &line, text.as_bytes()),
         Err(_) => Err(TalkFault::NoMemory),
     }
@@ -215,13 +216,13 @@ fn ended(turn: Result<bool, TalkFault>) -> Result<(), TalkFault>
 /// Why it broke off: what was written until then stays.
 pub(crate) fn talk<T: Terminal>(
     alloc: Global,
-    layout: &Layout,
+    lined: &LinedObject,
     machine: Machine,
     terminal: &mut T,
 ) -> Result<(), TalkFault>
     requires ready { T.is_ready terminal.old }
-    requires shape { machine.shape ≡ map length layout.now }
-    ensures { Talks (partner layout.now) (T.went terminal.old terminal.new) (first_place machine) result }
+    requires shape { machine.shape ≡ map length lined.now.object.layout }
+    ensures { Talks (partner lined.now) (T.went terminal.old terminal.new) (first_place machine) result }
 {
     let Ok(mut session) = Session::new(alloc, machine) else {
         return Err(TalkFault::NoMemory);
@@ -230,7 +231,7 @@ pub(crate) fn talk<T: Terminal>(
     let mut left = MAX_INPUT;
     let mut turn: Result<bool, TalkFault> = Ok(true);
     while is_more(&turn) {
-        turn = match ask(alloc, layout, terminal, &mut left) {
+        turn = match ask(alloc, lined, terminal, &mut left) {
             Ok(Heard::Stop(line, id, asked, cond)) => match Box::new(
                 alloc,
                 move |machine: &Machine| -> bool
@@ -258,7 +259,7 @@ pub(crate) fn talk<T: Terminal>(
                 Err(_) => Err(TalkFault::NoMemory),
             },
             Ok(Heard::Other(line, order)) => {
-                reply(layout, terminal, &mut session, &mut desk, line, order)
+                reply(lined, terminal, &mut session, &mut desk, line, order)
             }
             Ok(Heard::Nothing) => Ok(false),
             Err(fault) => Err(fault),

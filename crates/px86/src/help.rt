@@ -193,9 +193,11 @@ With --interactive each line is answered before the next is read. Stops and watc
   undo [N]            goes back before the last step, or before the last N, and forgets what was noted of them
   goto N              goes back to the state after the first N steps, as undo does; it never goes forward
   reverse             goes back, as undo does, to the last state behind in which a stop's condition holds, or to the beginning
+  list                prints the program that each processor runs, with > before the place where it is
   print NAME          prints the values of a word; print P:REG the value of a register
   all COND            says whether COND holds in all that a crash may leave, and if not, where it does not, as images --all does
   set V ..            prints which pending entries leave these values, one for each word, as images --set does
+  why V ..            says which writes are missing where a crash leaves these values, and why each may be, as images --set --explain-image does
   crash V ..          the power fails now, and leaves these values, unless a stop comes before; recovery begins
   info                prints the lines that declared the stops and watches that there are
   delete ID           takes out the stop of this id, and the watch of it, whichever there is
