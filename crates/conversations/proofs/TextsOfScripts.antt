@@ -1,5 +1,5 @@
 -- What the commands of a script write does not depend on what was written before.
-use Rattle.std.proofs.Common.{◌≡◌, ℕ, List, [], ◌∷◌, ◌++◌, Bool, true, false, length, refl, sym, ◌∙◌, ap, append_assoc, nat_lt}
+use Rattle.std.proofs.Common.{◌≡◌, ℕ, List, [], ◌∷◌, ◌++◌, Bool, true, false, Result, length, refl, sym, ◌∙◌, ap, append_assoc, nat_lt}
 use Rattle.std.proofs.lemmas.List.{append-nil}
 use Rattle.std.specs.Prelude.{if◌then◌else◌}
 use Rattle.std.specs.List.{flat_map}
@@ -12,10 +12,13 @@ use Rattle.debug_scripts.specs.declared.orders.Command.TheVariants as commands
 use Rattle.debug_scripts.specs.Ahead.{Ahead, steps_ahead}
 use Rattle.debug_scripts.specs.DebugReports.{Stand, follow, followed, stand}
 use Rattle.debug_scripts.specs.SessionTexts.{watch_text}
-use Rattle.talks.specs.Conversations.{place_after}
+use Rattle.talks.specs.Conversations.{Exchange, place_after}
+use Rattle.conversations.specs.declared.asked.Asked.{Asked}
+use Rattle.conversations.specs.declared.line_fault.LineFault.{LineFault}
+use Rattle.conversations.specs.Checking.{Found}
 use Rattle.conversations.specs.Answered.{Answer, Place, answer_by, answer_to, answered, first_place, partner, place}
 use Rattle.conversations.specs.Desks.{declared_after}
-use Rattle.conversations.specs.SameText.{AnswersAreTheReport, AskCommands, replies}
+use Rattle.conversations.specs.SameText.{AnswersAreTheReport, AskCommands, lines_in, replies}
 
 -- a stand with this before its text
 abbrev pub onto : Text → Stand → Stand
@@ -48,16 +51,16 @@ followed_onto names (command ∷ cs) v a t =
     ∙ ap (onto t) (sym (followed_onto names cs s.session s.ahead s.text))
 
 -- lines that ask commands lead where the commands lead, and their answers are what the commands write
-asked_all : (lined : LinedObject) (p : Place) (lines : List (List ℕ)) (cs : List Command) → AskCommands lined.object.layout lines cs
+asked_all : (lined : LinedObject) (p : Place) (lines : List (Exchange Found)) (cs : List Command) → AskCommands lined.object.layout (lines_in lines) cs
     → stand (place_after (partner lined) p lines).session (place_after (partner lined) p lines).ahead (replies lined p lines) ≡ followed lined.object.layout (stand p.session p.ahead []) cs
 asked_all lined p [] [] asks-all = refl
 asked_all lined p [] (command ∷ cs) asks-all = absurd asks-all
-asked_all lined p (line ∷ lines) [] asks-all = absurd asks-all
-asked_all lined p (line ∷ lines) (command ∷ cs) (is, others) =
+asked_all lined p (x ∷ lines) [] asks-all = absurd asks-all
+asked_all lined p (x ∷ lines) (command ∷ cs) (is, others) =
     let s = follow lined.object.layout (stand p.session p.ahead []) command in
     let q : Place = place s.session s.ahead (declared_after command p.declared) in
-    let one : answer_to lined p line ≡ answer_by s (declared_after command p.declared) = ap (answered lined p line) is in
-    let first : Answer → Stand = λ (x : Answer). stand (place_after (partner lined) x.place lines).session (place_after (partner lined) x.place lines).ahead (x.text ++ replies lined x.place lines) in
+    let one : answer_to lined p x.line x.found ≡ answer_by s (declared_after command p.declared) = ap (λ (y : Result Asked LineFault). answered lined p x.line y x.found) is in
+    let first : Answer → Stand = λ (a : Answer). stand (place_after (partner lined) a.place lines).session (place_after (partner lined) a.place lines).ahead (a.text ++ replies lined a.place lines) in
     ap first one ∙ ap (onto s.text) (asked_all lined q lines cs others) ∙ sym (followed_onto lined.object.layout cs s.session s.ahead s.text)
 
 pub answers_are_the_report : AnswersAreTheReport

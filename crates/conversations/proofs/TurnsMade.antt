@@ -18,13 +18,15 @@ use Rattle.talks.proofs.PartsOfTurns.{turn_answered, turn_unanswered}
 use Rattle.talks.proofs.TurnsInTurn.{GoesOn, begun, broken, closed, one_more}
 use Rattle.conversations.specs.declared.asked.Asked.{Asked}
 use Rattle.conversations.specs.declared.asked.Asked.TheVariants as asks
+use Rattle.conversations.specs.declared.asked.Order.{Order}
 use Rattle.conversations.specs.declared.heard.Heard.{Heard}
 use Rattle.conversations.specs.declared.heard.Heard.TheVariants as hears
 use Rattle.conversations.specs.declared.line_fault.LineFault.{LineFault}
-use Rattle.conversations.specs.Asking.{asked_of}
+use Rattle.conversations.specs.Asking.{as_asked, asked_of}
+use Rattle.conversations.specs.Checking.{Found, nothing_found}
 use Rattle.conversations.specs.Desks.{Declaration}
-use Rattle.conversations.specs.Answered.{KeepsShape, Place, answered, armed_at, first_place, partner, place, watched_at}
-use Rattle.conversations.specs.Turning.{Asks, IsRead, Replies, ended, is_more, may_go_on}
+use Rattle.conversations.specs.Answered.{KeepsShape, MayFind, Place, answered, armed_at, first_place, partner, place, watched_at}
+use Rattle.conversations.specs.Turning.{Asks, IsHeard, IsRead, Replies, RepliesFound, ended, is_more, may_go_on}
 use Rattle.conversations.proofs.AnswersGiven.{answers_line}
 
 -- how often there may be a turn more: fewer times than bytes may still be heard, and one
@@ -58,20 +60,22 @@ turns_fall lined Went p q left new turn then' more turned = rw more (fewer_turns
 
 module _ {T : Type 0} (Went : T → T → List Event → Type 0) (both : (a b c : T) (x y : List Event) → Went a b x → Went b c y → Went a c (x ++ y)) (lined : LinedObject) where
   -- a line is heard, and read
-  pub asks_line : (a b : T) (left new : ℕ) (line : Line) (r : Result Heard TalkFault) → HasHeard (partner lined) (Went a b) left new line.is_fed line.bytes.items → IsRead lined.object.layout line r
+  pub asks_line : (a b : T) (left new : ℕ) (line : Line) (r : Result Heard TalkFault) → IsHeard lined (Went a b) left new line → IsRead lined.object.layout line r
       → Asks lined (Went a b) left new r
   asks_line a b left new line (Ok hears.Nothing) so never = absurd never
   asks_line a b left new line (Ok (hears.Stop own id asked cond)) so (same, is, twice) = rw same (so, is, twice)
   asks_line a b left new line (Ok (hears.Watch own order)) so (same, is) = rw same (so, is)
+  asks_line a b left new line (Ok (hears.Check own cond)) so (same, is) = rw same (so, is)
   asks_line a b left new line (Ok (hears.Other own order)) so (same, is) = rw same (so, is)
   asks_line a b left new line (Err fault) so is = λ p. rw is (turn_unanswered Went both (partner lined) a b p p left new line.is_fed line.bytes.items so)
 
   -- a line that asks this is answered
-  pub line_answered : (a b c : T) (p q : Place) (left new : ℕ) (line : Line) (asked : Result Asked LineFault) (r : Result Bool TalkFault)
-      → HasHeard (partner lined) (Went a b) left new line.is_fed line.bytes.items → asked_of lined.object.layout line.bytes.items ≡ asked
-      → Replies (Went b c) (answered lined p line.bytes.items asked) q (may_go_on line.is_fed line.bytes.items) r → Turns (partner lined) (Went a c) p q left new r
-  line_answered a b c p q left new line asked r so is told =
-      turn_answered Went both (partner lined) a b c p q left new line.is_fed line.bytes.items r so (answers_line lined (Went b c) p q line.is_fed line.bytes.items asked r is told)
+  pub line_answered : (a b c : T) (p q : Place) (left new : ℕ) (line : Line) (asked : Result Asked LineFault) (found : Found) (r : Result Bool TalkFault)
+      → HasHeard (partner lined) (Went a b) left new line.is_fed line.bytes.items → asked_of lined.object.layout line.bytes.items ≡ asked → MayFind lined p asked found
+      → Replies (Went b c) (answered lined p line.bytes.items asked found) q (may_go_on line.is_fed line.bytes.items) r → Turns (partner lined) (Went a c) p q left new r
+  line_answered a b c p q left new line asked found r so is may told =
+      turn_answered Went both (partner lined) a b c p q left new line.is_fed line.bytes.items r so
+      (answers_line lined (Went b c) p q line.is_fed line.bytes.items asked found r is may told)
 
   -- the same of a stop
   pub stop_answered : (a b c : T) (p q : Place) (left new : ℕ) (line : Line) (id armed_id : ℕ) (cond armed_cond : Formula) (r : Result Bool TalkFault)
@@ -79,7 +83,7 @@ module _ {T : Type 0} (Went : T → T → List Event → Type 0) (both : (a b c 
       → armed_id ≡ id → armed_cond ≡ cond → Replies (Went b c) (armed_at p line.bytes.items armed_id armed_cond) q (may_go_on line.is_fed line.bytes.items) r
       → Turns (partner lined) (Went a c) p q left new r
   stop_answered a b c p q left new line id armed_id cond armed_cond r so is same_id same_cond told =
-      line_answered a b c p q left new line (Ok (asks.Stop id cond)) r so is (rw (same_id, same_cond) at told)
+      line_answered a b c p q left new line (Ok (asks.Stop id cond)) nothing_found r so is tt (rw (same_id, same_cond) at told)
 
   -- and of a watch
   pub watch_answered : (a b c : T) (p q : Place) (left new : ℕ) (line : Line) (order : WatchOrder) (id : ℕ) (r : Result Bool TalkFault)
@@ -87,7 +91,20 @@ module _ {T : Type 0} (Went : T → T → List Event → Type 0) (both : (a b c 
       → id ≡ order.id → Replies (Went b c) (watched_at p line.bytes.items id order.word) q (may_go_on line.is_fed line.bytes.items) r
       → Turns (partner lined) (Went a c) p q left new r
   watch_answered a b c p q left new line order id r so is same told =
-      line_answered a b c p q left new line (Ok (asks.Watch order)) r so is (rw same at told)
+      line_answered a b c p q left new line (Ok (asks.Watch order)) nothing_found r so is tt (rw same at told)
+
+  -- and where all runs are asked about
+  pub check_answered : (a b c : T) (p q : Place) (left new : ℕ) (line : Line) (cond : Formula) (r : Result Bool TalkFault)
+      → HasHeard (partner lined) (Went a b) left new line.is_fed line.bytes.items → asked_of lined.object.layout line.bytes.items ≡ Ok (asks.Check cond)
+      → RepliesFound lined (Went b c) p q cond (may_go_on line.is_fed line.bytes.items) r → Turns (partner lined) (Went a c) p q left new r
+  check_answered a b c p q left new line cond r so is told = line_answered a b c p q left new line (Ok (asks.Check cond)) told.found r so is told.is told.replies
+
+  -- and of any other line
+  pub other_answered : (a b c : T) (p q : Place) (left new : ℕ) (line : Line) (order : Result Order LineFault) (r : Result Bool TalkFault)
+      → HasHeard (partner lined) (Went a b) left new line.is_fed line.bytes.items → asked_of lined.object.layout line.bytes.items ≡ as_asked order
+      → Replies (Went b c) (answered lined p line.bytes.items (as_asked order) nothing_found) q (may_go_on line.is_fed line.bytes.items) r → Turns (partner lined) (Went a c) p q left new r
+  other_answered a b c p q left new line (Ok order) r so is told = line_answered a b c p q left new line (as_asked (Ok order)) nothing_found r so is tt told
+  other_answered a b c p q left new line (Err fault) r so is told = line_answered a b c p q left new line (as_asked (Err fault)) nothing_found r so is tt told
 
   -- or there is no memory for the answer
   pub line_unanswered : (a b : T) (p q : Place) (left new : ℕ) (line : Line) → HasHeard (partner lined) (Went a b) left new line.is_fed line.bytes.items

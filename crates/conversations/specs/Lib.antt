@@ -1,5 +1,6 @@
 pub mod Answered
 pub mod Asking
+pub mod Checking
 pub mod Conversing
 pub mod Crashing
 pub mod Desks
@@ -11,4 +12,5 @@ pub mod Listed
 pub mod Printed
 pub mod Reversing
 pub mod SameText
+pub mod Staying
 pub mod Turning

@@ -11,8 +11,9 @@ ghost use Rattle.debugger.specs.Writes.{word_selection};
 ghost use Rattle.images.specs.Images.{closed_set_of};
 ghost use Rattle.jobs.specs.NextSteps.{next_steps};
 ghost use Rattle.explore.specs.Falls.{fall_at};
-ghost use Rattle.conversations.specs.Answered.{answer, answered, armed_at, crashed_at, deleted_at, gone_to, ordered, picked_at, place, made_at, place_by, unmade_at, watched_at, KeepsShape};
+ghost use Rattle.conversations.specs.Answered.{answer, answered, armed_at, crashed_at, deleted_at, gone_to, ordered, picked_at, place, made_at, place_by, unmade_at, walked_at, watched_at, KeepsShape};
 ghost use Rattle.conversations.specs.Asking.{as_asked};
+ghost use Rattle.conversations.specs.Checking.{nothing_found};
 ghost use Rattle.conversations.specs.Desks.{Declaration};
 ghost use Rattle.conversations.specs.Eager.{is_met, most_steps, runs_of, steps_to, steps_until};
 ghost use Rattle.conversations.specs.HelpTexts.{hint_text};
@@ -20,10 +21,10 @@ ghost use Rattle.conversations.specs.LineFaults.{line_fault_text};
 
 use crate::asked::Order;
 use crate::declaration::{declare, forget, forget_by, push_info};
-use crate::desk::Desk;
+use crate::desk::{Desk, take_first};
 use crate::eager::{Aim, MOST_STEPS, runs_of, steps_to, steps_until};
 use crate::help::{push_help, push_hint, push_row};
-use crate::imaged::{fall_steps, push_all_of, push_set_of, push_why};
+use crate::imaged::{fall_steps, push_all_of, push_broken, push_set_of, push_why};
 use crate::line_fault::LineFault;
 use crate::listed::push_list;
 use crate::printed::{push_next_steps, push_register, push_steps, push_word};
@@ -92,6 +93,24 @@ fn pick(
     match steps.get(number as usize) {
         Some(step) => make(session, text, &[*step]),
         None => Ok(writeln!(text, "no step {number}")?),
+    }
+}
+
+/// Makes the first of the steps ahead, if there is one, and appends to a text that is empty where it halted; or appends that there is
+/// none.
+///
+/// # Errors
+///
+/// What memory was refused to. The step may have been made.
+fn walk(session: &mut Session, desk: &mut Desk, text: &mut String) -> Result<(), PlayFault>
+    requires empty { string_bytes text.old ≡ [] }
+    ensures answers { OnOk result (answer (place_by meaning_of session.new desk.new) (string_bytes text.new)
+        ≡ walked_at (place_by meaning_of session.old desk.old)) }
+    ensures shape { KeepsShape (session_value meaning_of session.old) (session_value meaning_of session.new) }
+{
+    match take_first(&mut desk.ahead) {
+        Some(step) => make(session, text, &[step]),
+        None => Ok(writeln!(text, "no step ahead")?),
     }
 }
 
@@ -391,6 +410,7 @@ fn obey(
         Order::Nothing | Order::Quit => Ok(()),
         Order::Script(command) => follow_at(lined, session, desk, text, command),
         Order::Make(step) => make(session, text, &[*step]),
+        Order::Walk => walk(session, desk, text),
         Order::Pick(number) => pick(desk.alloc, session, text, *number),
         Order::Run(count) => run(desk.alloc, session, text, *count),
         Order::Until(processor, place) => until(desk.alloc, session, text, *processor, *place),
@@ -399,11 +419,13 @@ fn obey(
         Order::Goto(kept) => Ok(go_to(session, text, *kept as usize)?),
         Order::Reverse => Ok(reverse(session, text)?),
         Order::All(cond) => Ok(push_all_of(desk.alloc, text, &session.look(), cond)?),
+        Order::Broken(cond) => Ok(push_broken(desk.alloc, text, &session.look(), cond)?),
         Order::Set(image) => Ok(push_set_of(desk.alloc, text, &session.look(), image)?),
         Order::Why(image) => Ok(push_why(desk.alloc, text, lined, session.past.steps(), image)?),
         Order::CrashTo(image) => crash_to(desk.alloc, session, text, image),
         Order::Info => Ok(push_info(text, &desk.declared)?),
         Order::Delete(id) => Ok(delete(session, desk, text, *id)?),
+        Order::Ahead => Ok(push_steps(desk.alloc, text, desk.ahead.all())?),
         Order::List => Ok(push_list(text, lined, &session.look())?),
         Order::Next => Ok(push_next_steps(desk.alloc, text, layout, session.past.machine())?),
         Order::Word(word) => Ok(push_word(text, layout, &session.look(), *word)?),
@@ -431,7 +453,7 @@ pub(crate) fn answer(
     requires shape { HasShape lined.now.object.layout (session_value meaning_of session.old) }
     requires empty { string_bytes text.old ≡ [] }
     ensures answers { OnOk result (answer (place_by meaning_of session.new desk.new) (string_bytes text.new)
-        ≡ answered lined.now (place_by meaning_of session.old desk.old) line.now.bytes.items (as_asked order.now)) }
+        ≡ answered lined.now (place_by meaning_of session.old desk.old) line.now.bytes.items (as_asked order.now) nothing_found) }
     ensures shape { OnOk result (HasShape lined.now.object.layout (session_value meaning_of session.new)) }
 {
     match order {

@@ -1,14 +1,16 @@
 //! What is asked of the images of a state, and the steps behind which a crash leaves one of them.
 ghost use Rattle.std.specs.Prelude.{◌≡◌, ◌++◌, IfOk, OnOk, Some, option_copied, slice_index_or, string_bytes};
 ghost use Rattle.persist_buffer.specs.declared.entry.PendingEntry.TheVariants.{Marker};
+ghost use Rattle.std.specs.List.{filter};
+ghost use Rattle.images.specs.Truth.{fails_on, value_on};
 ghost use Rattle.image_reasons.specs.Reasons.{missing_found};
 ghost use Rattle.explore.specs.Falls.{fall_at, step_for};
 ghost use Rattle.jobs.specs.ImageReports.{all_text};
-ghost use Rattle.conversations.specs.Imaged.{all_of, set_of, told_of, why_of};
+ghost use Rattle.conversations.specs.Imaged.{all_of, broken_of, set_of, told_of, why_of};
 
-use commands::{push_candidates, push_image_lines, push_values};
+use commands::{push_candidates, push_image_lines, push_images, push_values};
 use image_reasons::{Missing, missing_writes};
-use images::{Cond, Count, Image, all_images, closed_set, count, list};
+use images::{Cond, Count, Image, Operand, Values, all_images, closed_set, count, list};
 use jobs::push_set;
 use litmus_text::LinedObject;
 use machine::{PendingEntry, Step, View};
@@ -42,6 +44,65 @@ pub(crate) fn push_all_of(
     };
     let images = list(alloc, &countable)?;
     push_kept(text, all_images(cond, view, &images))
+}
+
+/// The values of operands in a machine's state, but for an image that is read as the persisted values.
+#[derive(Clone, Copy)]
+struct ImageValues<'v, 'm> {
+    view: &'v View<'m>,
+    image: &'v Image,
+}
+
+impl<'v, 'm> Values for ImageValues<'v, 'm> {
+    ghost use Rattle.images.specs.Truth.{value_on};
+
+    ghost values = { λ s. value_on s.view.now s.image.now };
+
+    fn value(&self, operand: Operand) -> Option<u64> {
+        image_value(self.view, self.image, operand)
+    }
+}
+
+/// The value of an operand where an image is read as the persisted values.
+fn image_value(view: &View, image: &Image, operand: Operand) -> Option<u64>
+    ensures { result ≡ value_on view.now image.now operand }
+{
+    match operand {
+        Operand::Persisted(word) => image.get(view.pending().shape(), word),
+        Operand::Coherent(word) => view.coherent(word),
+        Operand::Register(p, r) => view.reg(p as usize, r),
+    }
+}
+
+/// Whether a condition does not hold where an image is read as the persisted values.
+fn fails(cond: &Cond, view: &View, image: &Image) -> bool
+    ensures { result ≡ fails_on view.now cond.now image.now }
+{
+    !cond.holds(&ImageValues { view, image })
+}
+
+/// Drops the images for which a condition holds.
+fn keep_broken(images: &mut Vec<Image>, cond: &Cond, view: &View)
+    ensures { images.new.items ≡ filter (fails_on view.now cond.now) images.old.items }
+{
+    images.retain(|image| fails(cond, view, image));
+}
+
+/// Appends the images of a state for which a condition does not hold; or that there are too many candidates.
+pub(crate) fn push_broken(
+    alloc: Global,
+    text: &mut String,
+    view: &View<'_>,
+    cond: &Cond,
+) -> Result<(), AllocError>
+    ensures { OnOk result (string_bytes text.new ≡ string_bytes text.old ++ broken_of view.now cond.now) }
+{
+    let Some(countable) = count(view) else {
+        return push_candidates(text, Count::More);
+    };
+    let mut images = list(alloc, &countable)?;
+    keep_broken(&mut images, cond, view);
+    push_images(text, &images)
 }
 
 /// Appends which pending entries leave an image.

@@ -3,9 +3,8 @@ use Rattle.talks.specs.Conversations.{Turns, max_heard, unopened}
 use Rattle.talks.specs.declared.fault.TalkFault.TheVariants as faults
 use Rattle.debugger.specs.Stops.{armed}
 use Rattle.debugger.specs.Sessions.{session, watch}
-use Rattle.conversations.specs.Asking.{as_asked}
 use Rattle.conversations.specs.Answered.{partner, place}
-use Rattle.conversations.proofs.TurnsMade.{begins, first_shape, line_answered, line_unanswered, now_over, on_more, shape_kept, still_going, stop_answered, turns_fall, watch_answered}
+use Rattle.conversations.proofs.TurnsMade.{begins, check_answered, first_shape, line_unanswered, now_over, on_more, other_answered, shape_kept, still_going, stop_answered, turns_fall, watch_answered}
 use Rattle.conversations.proofs.turns.talk.OwnLists.{own-2}
 use Rattle.conversations.proofs.turns.talk.Given.{Over}
 use Rattle.conversations.proofs.turns.talk.Goals as goal
@@ -113,6 +112,25 @@ loop-turn-preserved-in-Err-new-2 g c = record {
   shape = λ e. absurd (cc);
 }
 
+-- ---- a question about all runs
+
+check_turned : (g : Over) (c : goal.After-reply_check-turn g)
+    → let old = session c.loop-turn.session.past (map (λ t. armed t.id t.cond) c.loop-turn.session.stops.items) (map (λ w. watch w.id ((own-2.entry w.watcher.vtable).1.meaning_of w.watcher.value)) c.loop-turn.session.watchers.items) in
+    Turns (partner c.args.lined.now) (g.T.Terminal.went c.loop-turn.terminal c.reply_check-turn.new.terminal) (place old c.loop-turn.desk.ahead c.loop-turn.desk.declared.items) (place old c.reply_check-turn.new.desk.ahead c.reply_check-turn.new.desk.declared.items) c.loop-turn.left c.ask.new.left c.reply_check-turn.result
+check_turned g c =
+    let old = session c.loop-turn.session.past (map (λ t. armed t.id t.cond) c.loop-turn.session.stops.items) (map (λ w. watch w.id ((own-2.entry w.watcher.vtable).1.meaning_of w.watcher.value)) c.loop-turn.session.watchers.items) in
+    let heard = rw c.in-Ok-Check.field-0-is at c.in-Ok-Check.ensures.went in
+    check_answered g.T.Terminal.went g.met.T.Terminal.both c.args.lined.now c.loop-turn.terminal c.ask.new.terminal c.reply_check-turn.new.terminal (place old c.loop-turn.desk.ahead c.loop-turn.desk.declared.items) (place old c.reply_check-turn.new.desk.ahead c.reply_check-turn.new.desk.declared.items) c.loop-turn.left c.ask.new.left c.in-Ok-Check.line c.in-Ok-Check.cond c.reply_check-turn.result
+    heard.0 heard.1 c.reply_check-turn.ensures.went
+
+pub loop-turn-preserved-in-Ok-Check : goal.loop-turn-preserved-in-Ok-Check
+loop-turn-preserved-in-Ok-Check g c = record {
+  so = λ e. still_going g.T.Terminal.went g.met.T.Terminal.nothing g.met.T.Terminal.both c.args.lined.now _ _ _ _ _ _ c.loop-turn.left c.ask.new.left c.reply_check-turn.result (c.loop-turn.invariant.so (sym c.is_more.ensures ∙ c.loop-turn-test.true)) (check_turned g c) e;
+  over = λ e. now_over g.T.Terminal.went g.met.T.Terminal.nothing g.met.T.Terminal.both c.args.lined.now _ _ _ _ _ _ c.loop-turn.left c.ask.new.left c.reply_check-turn.result (c.loop-turn.invariant.so (sym c.is_more.ensures ∙ c.loop-turn-test.true)) (check_turned g c) e;
+  ready = λ e. on_more c.reply_check-turn.result c.reply_check-turn.ensures.ready e;
+  shape = λ e. c.loop-turn.invariant.shape (sym c.is_more.ensures ∙ c.loop-turn-test.true);
+}
+
 -- ---- any other line
 
 other_turned : (g : Over) (c : goal.After-reply-turn g)
@@ -123,7 +141,7 @@ other_turned g c =
     let old = session c.loop-turn.session.past (map (λ t. armed t.id t.cond) c.loop-turn.session.stops.items) (map (λ w. watch w.id ((own-2.entry w.watcher.vtable).1.meaning_of w.watcher.value)) c.loop-turn.session.watchers.items) in
     let new = session c.reply-turn.new.session.past (map (λ t. armed t.id t.cond) c.reply-turn.new.session.stops.items) (map (λ w. watch w.id ((own-2.entry w.watcher.vtable).1.meaning_of w.watcher.value)) c.reply-turn.new.session.watchers.items) in
     let heard = rw c.in-Ok-Other.field-0-is at c.in-Ok-Other.ensures.went in
-    line_answered g.T.Terminal.went g.met.T.Terminal.both c.args.lined.now c.loop-turn.terminal c.ask.new.terminal c.reply-turn.new.terminal (place old c.loop-turn.desk.ahead c.loop-turn.desk.declared.items) (place new c.reply-turn.new.desk.ahead c.reply-turn.new.desk.declared.items) c.loop-turn.left c.ask.new.left c.in-Ok-Other.line (as_asked c.in-Ok-Other.order) c.reply-turn.result
+    other_answered g.T.Terminal.went g.met.T.Terminal.both c.args.lined.now c.loop-turn.terminal c.ask.new.terminal c.reply-turn.new.terminal (place old c.loop-turn.desk.ahead c.loop-turn.desk.declared.items) (place new c.reply-turn.new.desk.ahead c.reply-turn.new.desk.declared.items) c.loop-turn.left c.ask.new.left c.in-Ok-Other.line c.in-Ok-Other.order c.reply-turn.result
     heard.0 heard.1 c.reply-turn.ensures.went
 
 pub loop-turn-preserved-in-Ok-Other : goal.loop-turn-preserved-in-Ok-Other
