@@ -1,29 +1,31 @@
 -- Answers, as they are made.
-use Rattle.std.proofs.Common.{◌≡◌, ℕ, ◌<◌, ◌-◌, List, [], ◌∷◌, ◌++◌, length, take, Bool, true, false, Option, Some, None, Result, Ok, Err, refl, sym, ◌∙◌, ap, subst, arith, inl, inr}
+use Rattle.std.proofs.Common.{◌≡◌, ℕ, ◌<◌, ◌-◌, List, [], ◌∷◌, ◌++◌, length, take, drop, codes, Bool, true, false, Option, Some, None, Result, Ok, Err, refl, sym, ◌∙◌, ap, subst, arith, inl, inr}
 use Rattle.std.proofs.lemmas.Bool.{cases_Bool, lt-ltb}
 use Rattle.std.proofs.lemmas.Bool.Decides.{nat_tests}
 use Rattle.std.specs.Prelude.{IfErr, OnErr, OnOk, nat_lt, ◌↔◌}
 use Rattle.machine.proofs.RunIsAPrefix.{run_shape}
-use Rattle.lines_layout.specs.Layouts.{NamedLines}
+use Rattle.litmus_text.specs.declared.text_lines.LinedObject.{LinedObject}
 use Rattle.machine.specs.declared.step.Step.{Step}
+use Rattle.explore.specs.Falls.{fall_at}
 use Rattle.debugger.specs.Halts.{HaltsAt, halt_of, made}
 use Rattle.debugger.specs.declared.halt.Halt.{Halt}
 use Rattle.debugger.specs.declared.halt.Halt.TheVariants as halts
 use Rattle.debugger.specs.Sessions.{SessionValue, after, unmade}
 use Rattle.debugger.specs.declared.fault.SessionFault.{SessionFault}
 use Rattle.debugger.specs.declared.fault.SessionFault.TheVariants.{TooFar}
-use Rattle.debug_scripts.specs.Ahead.{Ahead}
+use Rattle.commands.specs.StateTexts.{end_of_line}
+use Rattle.debug_scripts.specs.Ahead.{Ahead, all_ahead, steps_ahead}
 use Rattle.debug_scripts.specs.SessionTexts.{IsMade, back_text, fault_line, halt_line}
 use Rattle.talks.specs.declared.fault.TalkFault.{TalkFault}
 use Rattle.talks.specs.declared.fault.TalkFault.TheVariants as talk_faults
 use Rattle.talks.specs.Events.{Event, WriteFailed, told}
-use Rattle.talks.specs.Conversations.{Answers}
+use Rattle.talks.specs.Conversations.{Answers, AnswersBy}
 use Rattle.conversations.specs.declared.asked.Asked.{Asked}
 use Rattle.conversations.specs.declared.line_fault.LineFault.{LineFault}
 use Rattle.conversations.specs.Asking.{asked_of}
+use Rattle.conversations.specs.Checking.{Found, ahead_found, found_text}
 use Rattle.conversations.specs.Desks.{Declaration}
-use Rattle.conversations.specs.Imaged.{crash_behind}
-use Rattle.conversations.specs.Answered.{Answer, KeepsShape, Place, made_at, answer, answer_to, answered, crashed_at, gone_to, no_step_line, partner, picked_at, place, unmade_at}
+use Rattle.conversations.specs.Answered.{Answer, KeepsShape, MayFind, Place, made_at, answer, answer_to, answered, checked_at, crashed_at, gone_to, no_step_line, partner, picked_at, place, unmade_at, walked_by}
 use Rattle.conversations.specs.Turning.{Replies, TellsMore, may_go_on}
 
 -- ---- steps that are made
@@ -55,9 +57,16 @@ pub none_picked : (v : SessionValue) (n : ℕ) (found : Option Step) (text : Lis
     → (a : Ahead) (ds : List Declaration) → answer (place v a ds) text ≡ picked_at (place v a ds) n found
 none_picked v n found text is written a ds = ap (answer (place v a ds)) written ∙ ap (picked_at (place v a ds) n) (sym is)
 
+-- the first of the steps ahead is made
+pub walked_so : {E : Type 0} (v w : SessionValue) (a b : Ahead) (ds : List Declaration) (found : Option Step) (steps : List Step) (step : Step) (text : List ℕ) (r : Result (Unit {0}) E)
+    → found ≡ Some step → steps ≡ step ∷ [] → b ≡ steps_ahead (drop 1 (all_ahead a)) []
+    → OnOk r ((a : Ahead) (ds : List Declaration) → answer (place w a ds) text ≡ made_at (place v a ds) steps) → OnOk r (answer (place w b ds) text ≡ walked_by (place v a ds) found)
+walked_so v w a b ds found steps step text (Err refused) is one next made = tt
+walked_so v w a b ds found steps step text (Ok told) is one next made = rw (is, next) (rw one at made (steps_ahead (drop 1 (all_ahead a)) []) ds)
+
 -- the crash leaves an image
 pub crashed_so : {E : Type 0} (v w : SessionValue) (found : Option (List ℕ)) (places : List ℕ) (text : List ℕ) (r : Result (Unit {0}) E) → found ≡ Some places
-    → OnOk r ((a : Ahead) (ds : List Declaration) → answer (place w a ds) text ≡ made_at (place v a ds) (crash_behind v.past.state places))
+    → OnOk r ((a : Ahead) (ds : List Declaration) → answer (place w a ds) text ≡ made_at (place v a ds) (fall_at v.past.state.memory.pending places))
     → OnOk r ((a : Ahead) (ds : List Declaration) → answer (place w a ds) text ≡ crashed_at (place v a ds) found)
 crashed_so v w found places text (Err refused) is made = tt
 crashed_so v w found places text (Ok told) is made = λ a ds. made a ds ∙ ap (crashed_at (place v a ds)) (sym is)
@@ -105,6 +114,11 @@ pub back_keeps : (v w : SessionValue) (n : ℕ) (r : Result (Unit {0}) SessionFa
 back_keeps v w n (Ok done) back same = subst (λ (x : SessionValue). KeepsShape v x) (sym back) (unmade_shape v n)
 back_keeps v w n (Err fault) back same = subst (λ (x : SessionValue). KeepsShape v x) (sym same) (λ names h. h)
 
+-- what was found of all runs is told, and the run that fails is ahead
+pub checked_so : (v : SessionValue) (a b : Ahead) (ds es : List Declaration) (found : Found) (text : List ℕ) → b ≡ ahead_found a found → es ≡ ds → text ≡ found_text found
+    → answer (place v b es) text ≡ checked_at (place v a ds) found
+checked_so v a b ds es found text loaded same written = rw (loaded, same, written) refl
+
 -- ---- what is told
 
 -- the answer to a line is told
@@ -118,18 +132,27 @@ replied Went x q may text bytes (Err talk_faults.ReadFailed) is written never = 
 replied Went x q may text bytes (Err talk_faults.TooLong) is written never = absurd never
 replied Went x q may text bytes (Err talk_faults.NoMemory) is written never = absurd never
 
--- it is the answer to the line that asks this
-pub answers_line : (names : NamedLines) (Went : List Event → Type 0) (p q : Place) (is_fed : Bool) (line : List ℕ) (asked : Result Asked LineFault) (r : Result Bool TalkFault)
-    → asked_of names line ≡ asked → Replies Went (answered names p line asked) q (may_go_on is_fed line) r → Answers (partner names) Went p q is_fed line r
-answers_line names Went p q is_fed line asked (Ok more) is (went, next, so) =
-    let e : answered names p line asked ≡ answer_to names p line = ap (answered names p line) (sym is) in
+-- it is the answer to the line that asks this, by what was found for it
+answers_by : (lined : LinedObject) (Went : List Event → Type 0) (p q : Place) (is_fed : Bool) (line : List ℕ) (asked : Result Asked LineFault) (found : Found) (r : Result Bool TalkFault)
+    → asked_of lined.object.layout line ≡ asked → Replies Went (answered lined p line asked found) q (may_go_on is_fed line) r → AnswersBy (partner lined) Went p q is_fed line found r
+answers_by lined Went p q is_fed line asked found (Ok more) is (went, next, so) =
+    let e : answered lined p line asked found ≡ answer_to lined p line found = ap (λ (x : Result Asked LineFault). answered lined p line x found) (sym is) in
     (subst (λ (x : Answer). Went (told x.text)) e went, next ∙ ap (λ (x : Answer). x.place) e, so)
-answers_line names Went p q is_fed line asked (Err talk_faults.WriteFailed) is ((n, went), next) =
-    let e : answered names p line asked ≡ answer_to names p line = ap (answered names p line) (sym is) in
+answers_by lined Went p q is_fed line asked found (Err talk_faults.WriteFailed) is ((n, went), next) =
+    let e : answered lined p line asked found ≡ answer_to lined p line found = ap (λ (x : Result Asked LineFault). answered lined p line x found) (sym is) in
     ((n, subst (λ (x : Answer). Went (told (take n x.text) ++ WriteFailed ∷ [])) e went), next ∙ ap (λ (x : Answer). x.place) e)
-answers_line names Went p q is_fed line asked (Err talk_faults.ReadFailed) is never = absurd never
-answers_line names Went p q is_fed line asked (Err talk_faults.TooLong) is never = absurd never
-answers_line names Went p q is_fed line asked (Err talk_faults.NoMemory) is nothing = nothing
+answers_by lined Went p q is_fed line asked found (Err talk_faults.ReadFailed) is never = absurd never
+answers_by lined Went p q is_fed line asked found (Err talk_faults.TooLong) is never = absurd never
+answers_by lined Went p q is_fed line asked found (Err talk_faults.NoMemory) is nothing = nothing
+
+pub answers_line : (lined : LinedObject) (Went : List Event → Type 0) (p q : Place) (is_fed : Bool) (line : List ℕ) (asked : Result Asked LineFault) (found : Found) (r : Result Bool TalkFault)
+    → asked_of lined.object.layout line ≡ asked → MayFind lined p asked found → Replies Went (answered lined p line asked found) q (may_go_on is_fed line) r
+    → Answers (partner lined) Went p q is_fed line r
+answers_line lined Went p q is_fed line asked found r is may replies = record {
+  found = found;
+  may = subst (λ (x : Result Asked LineFault). MayFind lined p x found) (sym is) may;
+  answers = answers_by lined Went p q is_fed line asked found r is replies;
+}
 
 -- what holds beside any steps ahead and any lines holds beside these
 pub beside : {E : Type 0} (X : Ahead → List Declaration → Type 0) (r : Result (Unit {0}) E) (a : Ahead) (ds : List Declaration) → OnOk r ((a : Ahead) (ds : List Declaration) → X a ds) → OnOk r (X a ds)

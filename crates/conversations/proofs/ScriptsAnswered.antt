@@ -1,10 +1,11 @@
 -- What is answered to the lines of a script is the report that `debug` writes of it.
-use Rattle.std.proofs.Common.{◌≡◌, ℕ, ◌==◌, List, [], ◌∷◌, ◌++◌, true, false, None, Ok, map, refl, sym, ◌∙◌, ap, append_assoc, inl, inr}
+use Rattle.std.proofs.Common.{◌≡◌, ℕ, ◌==◌, List, [], ◌∷◌, ◌++◌, true, false, None, Ok, map, refl, sym, ◌∙◌, ap, append_assoc, inl, inr, subst}
 use Rattle.std.proofs.lemmas.Bool.{cases_Bool}
 use Rattle.std.proofs.lemmas.List.{append-nil, map-append}
 use Rattle.std.specs.List.{find, flat_map, list_any}
 use Rattle.lines_layout.specs.Layouts.{NamedLines}
 use Rattle.lines_layout.specs.Names.{Text}
+use Rattle.litmus_text.specs.declared.text_lines.LinedObject.{LinedObject}
 use Rattle.text_tokens.specs.Text.{lines_of}
 use Rattle.machine.specs.State.{State}
 use Rattle.debugger.specs.Stops.{Armed}
@@ -26,11 +27,12 @@ use Rattle.debug_scripts.proofs.RowForms.{row_is_read}
 use Rattle.debug_scripts.proofs.ScriptsAreRead.{only_scripts}
 use Rattle.std.specs.Prelude.{nat_lt}
 use Rattle.std.specs.List.{position_or_len}
-use Rattle.talks.specs.Conversations.{place_after}
+use Rattle.talks.specs.Conversations.{Exchange, place_after}
+use Rattle.conversations.specs.Checking.{Found}
 use Rattle.conversations.specs.Asking.{stop_as, values_as}
 use Rattle.conversations.specs.Desks.{Declaration}
 use Rattle.conversations.specs.Answered.{Answer, answer_to, partner, place}
-use Rattle.conversations.specs.SameText.{ScriptsAreAnswered, replies}
+use Rattle.conversations.specs.SameText.{ScriptsAreAnswered, lines_in, replies}
 use Rattle.conversations.proofs.TextsOfScripts.{follow_onto, onto}
 
 -- ---- where a script stands
@@ -126,41 +128,43 @@ commanded names s script c =
     sym (follow_onto names z.session z.ahead z.text c) ∙ sym (followed_more names (stand (begun s script) (steps_ahead [] []) []) script.commands c)
 
 -- the answer to a line that adds to a script leads where the script with it stands
-one_line : (names : NamedLines) (s : State) (script next : Script) (line : List ℕ) (row : Said) (ds : List Declaration) → row_of names line ≡ Ok row → Adds names script row next
-    → behind (stands names s script).text (answer_to names (place (stands names s script).session (stands names s script).ahead ds) line) ≡ stands names s next
+one_line : (lined : LinedObject) (s : State) (script next : Script) (line : List ℕ) (found : Found) (row : Said) (ds : List Declaration) → row_of lined.object.layout line ≡ Ok row → Adds lined.object.layout script row next
+    → behind (stands lined.object.layout s script).text (answer_to lined (place (stands lined.object.layout s script).session (stands lined.object.layout s script).ahead ds) line found) ≡ stands lined.object.layout s next
 unfolding stop_as values_as
-one_line names s script next line Blank ds read adds = rw (read, adds) (ap (λ (x : Text). stand (stands names s script).session (stands names s script).ahead x) (append-nil (stands names s script).text))
-one_line names s script next line (Stop id text) ds read (none, cond, good, new, is) =
+one_line lined s script next line found Blank ds read adds = rw (read, adds) (ap (λ (x : Text). stand (stands lined.object.layout s script).session (stands lined.object.layout s script).ahead x) (append-nil (stands lined.object.layout s script).text))
+one_line lined s script next line found (Stop id text) ds read (none, cond, good, new, is) =
     let order : StopOrder = record { id = id; cond = cond } in
     rw (read, good, is, none, stop_is_free s script id new)
     (ap (λ (x : SessionValue). stand x (steps_ahead [] []) []) (sym (one_stop s script.stops script.watches order)))
-one_line names s script next line (Watch id word) ds read (none, new, is) =
+one_line lined s script next line found (Watch id word) ds read (none, new, is) =
     let order : WatchOrder = record { id = id; word = word } in
     rw (read, is, none, watch_is_free s script id new)
     (ap (λ (x : SessionValue). stand x (steps_ahead [] []) []) (sym (one_watch s script.stops script.watches order)))
-one_line names s script next line (Ask word tokens) ds read (given, are, is) = rw (read, given_are_read names [] tokens given are, is) (commanded names s script _)
-one_line names s script next line (Do command) ds read is = rw (read, is) (commanded names s script command)
+one_line lined s script next line found (Ask word tokens) ds read (given, are, is) = rw (read, given_are_read lined.object.layout [] tokens given are, is) (commanded lined.object.layout s script _)
+one_line lined s script next line found (Do command) ds read is = rw (read, is) (commanded lined.object.layout s script command)
 
 -- where the answers to lines lead, with their texts behind that of a stand
-abbrev pub after_lines : NamedLines → List (List ℕ) → List Declaration → Stand → Stand
-after_lines names lines ds z =
+abbrev pub after_lines : LinedObject → List (Exchange Found) → List Declaration → Stand → Stand
+after_lines lined lines ds z =
     let p = place z.session z.ahead ds in
-    let end = place_after (partner names) p lines in
-    stand end.session end.ahead (z.text ++ replies names p lines)
+    let end = place_after (partner lined) p lines in
+    stand end.session end.ahead (z.text ++ replies lined p lines)
 
 -- lines that are added to a script lead where the script with them stands
-all_lines : (names : NamedLines) (s : State) (script whole : Script) (lines : List (List ℕ)) (ds : List Declaration) → AddAll names script lines whole
-    → after_lines names lines ds (stands names s script) ≡ stands names s whole
-all_lines names s script whole [] ds is =
-    ap (λ (x : Text). stand (stands names s script).session (stands names s script).ahead x) (append-nil (stands names s script).text) ∙ ap (stands names s) (sym is)
-all_lines names s script whole (line ∷ lines) ds (row, next, is, adds, others) =
-    let z = stands names s script in
-    let a = answer_to names (place z.session z.ahead ds) line in
-    let end = place_after (partner names) a.place lines in
-    ap (λ (x : Text). stand end.session end.ahead x) (sym (append_assoc z.text a.text (replies names a.place lines)))
-    ∙ ap (after_lines names lines a.place.declared) (one_line names s script next line row ds (row_is_read names line row is) adds)
-    ∙ all_lines names s next whole lines a.place.declared others
+all_lines : (lined : LinedObject) (s : State) (script whole : Script) (lines : List (Exchange Found)) (ds : List Declaration) → AddAll lined.object.layout script (lines_in lines) whole
+    → after_lines lined lines ds (stands lined.object.layout s script) ≡ stands lined.object.layout s whole
+all_lines lined s script whole [] ds is =
+    ap (λ (x : Text). stand (stands lined.object.layout s script).session (stands lined.object.layout s script).ahead x) (append-nil (stands lined.object.layout s script).text) ∙ ap (stands lined.object.layout s) (sym is)
+all_lines lined s script whole (x ∷ lines) ds (row, next, is, adds, others) =
+    let z = stands lined.object.layout s script in
+    let a = answer_to lined (place z.session z.ahead ds) x.line x.found in
+    let end = place_after (partner lined) a.place lines in
+    ap (λ (y : Text). stand end.session end.ahead y) (sym (append_assoc z.text a.text (replies lined a.place lines)))
+    ∙ ap (after_lines lined lines a.place.declared) (one_line lined s script next x.line x.found row ds (row_is_read lined.object.layout x.line row is) adds)
+    ∙ all_lines lined s next whole lines a.place.declared others
 
 pub scripts_are_answered : ScriptsAreAnswered
-scripts_are_answered names s text script is =
-    ap (λ (z : Stand). z.text ++ flat_map (watch_text names) z.session.watches) (all_lines names s empty_script script (lines_of text) [] (only_scripts names text script is))
+scripts_are_answered lined s text script lines is same =
+    let added : AddAll lined.object.layout empty_script (lines_in lines) script =
+    subst (λ (them : List (List ℕ)). AddAll lined.object.layout empty_script them script) (sym same) (only_scripts lined.object.layout text script is) in
+    ap (λ (z : Stand). z.text ++ flat_map (watch_text lined.object.layout) z.session.watches) (all_lines lined s empty_script script lines [] added)

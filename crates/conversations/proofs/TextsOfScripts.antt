@@ -1,20 +1,24 @@
 -- What the commands of a script write does not depend on what was written before.
-use Rattle.std.proofs.Common.{◌≡◌, ℕ, List, [], ◌∷◌, ◌++◌, Bool, true, false, length, refl, sym, ◌∙◌, ap, append_assoc, nat_lt}
+use Rattle.std.proofs.Common.{◌≡◌, ℕ, List, [], ◌∷◌, ◌++◌, Bool, true, false, Result, length, refl, sym, ◌∙◌, ap, append_assoc, nat_lt}
 use Rattle.std.proofs.lemmas.List.{append-nil}
 use Rattle.std.specs.Prelude.{if◌then◌else◌}
 use Rattle.std.specs.List.{flat_map}
 use Rattle.lines_layout.specs.Layouts.{NamedLines}
 use Rattle.lines_layout.specs.Names.{Text}
+use Rattle.litmus_text.specs.declared.text_lines.LinedObject.{LinedObject}
 use Rattle.debugger.specs.Sessions.{SessionValue}
 use Rattle.debug_scripts.specs.declared.orders.Command.{Command}
 use Rattle.debug_scripts.specs.declared.orders.Command.TheVariants as commands
 use Rattle.debug_scripts.specs.Ahead.{Ahead, steps_ahead}
 use Rattle.debug_scripts.specs.DebugReports.{Stand, follow, followed, stand}
 use Rattle.debug_scripts.specs.SessionTexts.{watch_text}
-use Rattle.talks.specs.Conversations.{place_after}
+use Rattle.talks.specs.Conversations.{Exchange, place_after}
+use Rattle.conversations.specs.declared.asked.Asked.{Asked}
+use Rattle.conversations.specs.declared.line_fault.LineFault.{LineFault}
+use Rattle.conversations.specs.Checking.{Found}
 use Rattle.conversations.specs.Answered.{Answer, Place, answer_by, answer_to, answered, first_place, partner, place}
 use Rattle.conversations.specs.Desks.{declared_after}
-use Rattle.conversations.specs.SameText.{AnswersAreTheReport, AskCommands, replies}
+use Rattle.conversations.specs.SameText.{AnswersAreTheReport, AskCommands, lines_in, replies}
 
 -- a stand with this before its text
 abbrev pub onto : Text → Stand → Stand
@@ -47,18 +51,18 @@ followed_onto names (command ∷ cs) v a t =
     ∙ ap (onto t) (sym (followed_onto names cs s.session s.ahead s.text))
 
 -- lines that ask commands lead where the commands lead, and their answers are what the commands write
-asked_all : (names : NamedLines) (p : Place) (lines : List (List ℕ)) (cs : List Command) → AskCommands names lines cs
-    → stand (place_after (partner names) p lines).session (place_after (partner names) p lines).ahead (replies names p lines) ≡ followed names (stand p.session p.ahead []) cs
-asked_all names p [] [] asks-all = refl
-asked_all names p [] (command ∷ cs) asks-all = absurd asks-all
-asked_all names p (line ∷ lines) [] asks-all = absurd asks-all
-asked_all names p (line ∷ lines) (command ∷ cs) (is, others) =
-    let s = follow names (stand p.session p.ahead []) command in
+asked_all : (lined : LinedObject) (p : Place) (lines : List (Exchange Found)) (cs : List Command) → AskCommands lined.object.layout (lines_in lines) cs
+    → stand (place_after (partner lined) p lines).session (place_after (partner lined) p lines).ahead (replies lined p lines) ≡ followed lined.object.layout (stand p.session p.ahead []) cs
+asked_all lined p [] [] asks-all = refl
+asked_all lined p [] (command ∷ cs) asks-all = absurd asks-all
+asked_all lined p (x ∷ lines) [] asks-all = absurd asks-all
+asked_all lined p (x ∷ lines) (command ∷ cs) (is, others) =
+    let s = follow lined.object.layout (stand p.session p.ahead []) command in
     let q : Place = place s.session s.ahead (declared_after command p.declared) in
-    let one : answer_to names p line ≡ answer_by s (declared_after command p.declared) = ap (answered names p line) is in
-    let first : Answer → Stand = λ (x : Answer). stand (place_after (partner names) x.place lines).session (place_after (partner names) x.place lines).ahead (x.text ++ replies names x.place lines) in
-    ap first one ∙ ap (onto s.text) (asked_all names q lines cs others) ∙ sym (followed_onto names cs s.session s.ahead s.text)
+    let one : answer_to lined p x.line x.found ≡ answer_by s (declared_after command p.declared) = ap (λ (y : Result Asked LineFault). answered lined p x.line y x.found) is in
+    let first : Answer → Stand = λ (a : Answer). stand (place_after (partner lined) a.place lines).session (place_after (partner lined) a.place lines).ahead (a.text ++ replies lined a.place lines) in
+    ap first one ∙ ap (onto s.text) (asked_all lined q lines cs others) ∙ sym (followed_onto lined.object.layout cs s.session s.ahead s.text)
 
 pub answers_are_the_report : AnswersAreTheReport
-answers_are_the_report names s lines cs all =
-    ap (λ (z : Stand). z.text ++ flat_map (watch_text names) z.session.watches) (asked_all names (first_place s) lines cs all)
+answers_are_the_report lined s lines cs all =
+    ap (λ (z : Stand). z.text ++ flat_map (watch_text lined.object.layout) z.session.watches) (asked_all lined (first_place s) lines cs all)

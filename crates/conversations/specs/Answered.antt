@@ -1,8 +1,9 @@
 -- What is answered to a line, and where that leads.
-use Rattle.std.specs.Prelude.{ℕ, ◌-◌, Option, Some, None, Result, Ok, Err, List, [], ◌∷◌, ◌++◌, codes, decimal, if◌then◌else◌, is_some, ◌||◌, true, false, length, min, nat_lt, slice_get}
+use Rattle.std.specs.Prelude.{ℕ, ◌-◌, Option, Some, None, Result, Ok, Err, List, [], ◌∷◌, ◌++◌, codes, decimal, drop, if◌then◌else◌, is_some, ◌||◌, true, false, length, min, nat_lt, slice_get}
 use Rattle.std.specs.List.{flat_map}
 use Rattle.lines_layout.specs.Layouts.{NamedLines}
 use Rattle.lines_layout.specs.Names.{Text}
+use Rattle.litmus_text.specs.declared.text_lines.LinedObject.{LinedObject}
 use Rattle.machine.specs.State.{State}
 use Rattle.machine.specs.declared.step.Step.{Step}
 use Rattle.conditions.specs.Formulas.{Formula}
@@ -11,13 +12,14 @@ use Rattle.jobs.specs.NextSteps.{next_steps}
 use Rattle.jobs.specs.ImageReports.{set_text}
 use Rattle.images.specs.Images.{closed_set_of}
 use Rattle.commands.specs.StateTexts.{end_of_line}
+use Rattle.explore.specs.Falls.{fall_at}
 use Rattle.debugger.specs.Notes.{Meaning, meaning}
 use Rattle.debugger.specs.Stops.{armed}
 use Rattle.debugger.specs.Writes.{word_selection}
 use Rattle.debugger.specs.declared.fault.SessionFault.TheVariants.{DoubleId, TooFar}
 use Rattle.debugger.specs.Sessions.{SessionValue, opened, stop_of, unmade, watch, watch_of, with_stop, with_watch, without_stop, without_watch}
 use Rattle.debugger.specs.Values.{session_value}
-use Rattle.debug_scripts.specs.Ahead.{Ahead, steps_ahead}
+use Rattle.debug_scripts.specs.Ahead.{Ahead, all_ahead, steps_ahead}
 use Rattle.debug_scripts.specs.DebugReports.{HasShape, Stand, follow, make_on, stand}
 use Rattle.debug_scripts.specs.SessionTexts.{back_text, fault_line, taken_line, watch_text}
 use Rattle.talks.specs.Conversations.{Partner}
@@ -29,11 +31,14 @@ use Rattle.conversations.specs.declared.line_fault.LineFault.{LineFault}
 use Rattle.debugger.specs.declared.session.Session.{Session}
 use Rattle.conversations.specs.declared.desk.Desk.{Desk}
 use Rattle.conversations.specs.Asking.{asked_of, is_word}
+use Rattle.conversations.specs.Checking.{Found, IsFound, ahead_found, found_text}
 use Rattle.conversations.specs.Desks.{Declaration, declaration, declared_after, info_text, without}
-use Rattle.conversations.specs.Eager.{eager_steps, is_at, most_steps, runs_of, steps_to}
+use Rattle.conversations.specs.Eager.{is_met, most_steps, runs_of, steps_to, steps_until}
+use Rattle.conversations.specs.declared.eager.Aim.TheVariants.{Nowhere}
 use Rattle.conversations.specs.HelpTexts.{help_text, hint_text, row_line}
-use Rattle.conversations.specs.Imaged.{all_of, crash_behind, set_of}
+use Rattle.conversations.specs.Imaged.{all_of, broken_of, set_of, why_of}
 use Rattle.conversations.specs.LineFaults.{line_fault_text}
+use Rattle.conversations.specs.Listed.{list_text}
 use Rattle.conversations.specs.Printed.{next_text, register_text, word_text}
 use Rattle.conversations.specs.Reversing.{reversed}
 
@@ -85,7 +90,7 @@ picked_at p n None = answer p (no_step_line n)
 
 -- What leaves an image persists, and then there is a crash; a stop may come before. Where the image is none of the state's, that is answered, and all stays
 abbrev pub crashed_at : Place → Option (List ℕ) → Answer
-crashed_at p (Some places) = made_at p (crash_behind p.session.past.state places)
+crashed_at p (Some places) = made_at p (fall_at p.session.past.state.memory.pending places)
 crashed_at p None = answer p (set_text None)
 
 -- the one session has the words of a layout wherever the other has them
@@ -136,49 +141,79 @@ reversed_at p =
     let v = reversed (length p.session.past.history) p.session in
     answer (with_session p v) (back_text (length p.session.past.history - length v.past.history) (Ok tt))
 
--- The answer to an order. What a command of a script does and writes, it does and writes here. The notes of watches are those that `debug` writes at its end.
-abbrev pub ordered : NamedLines → Place → Order → Answer
-ordered names p orders.Nothing = answer p []
-ordered names p (orders.Script command) = answer_by (follow names (stand p.session p.ahead []) command) (declared_after command p.declared)
-ordered names p (orders.Make step) = made_at p (step ∷ [])
-ordered names p (orders.Pick n) = picked_at p n (slice_get (next_steps false p.session.past.state) n)
-ordered names p (orders.Finish processor) = made_at p (runs_of processor)
-ordered names p (orders.Run n) = made_at p (eager_steps (min n most_steps) p.session.past.state)
-ordered names p (orders.Until processor n) = made_at p (steps_to (is_at processor n) most_steps p.session.past.state)
-ordered names p (orders.Undo n) = unmade_at p n
-ordered names p (orders.Goto n) = gone_to p n
-ordered names p orders.Reverse = reversed_at p
-ordered names p (orders.All cond) = answer p (all_of p.session.past.state cond)
-ordered names p (orders.Set image) = answer p (set_of p.session.past.state image)
-ordered names p (orders.CrashTo image) = crashed_at p (closed_set_of p.session.past.state image)
-ordered names p orders.Info = answer p (info_text p.declared)
-ordered names p (orders.Delete id) = deleted_at p id
-ordered names p orders.Next = answer p (next_text names p.session.past.state)
-ordered names p (orders.Word word) = answer p (word_text names p.session.past.state word)
-ordered names p (orders.Register processor r) = answer p (register_text p.session.past.state processor r)
-ordered names p orders.Notes = answer p (flat_map (watch_text names) p.session.watches)
-ordered names p orders.History = answer p (steps_text p.session.past.history)
-ordered names p orders.Help = answer p help_text
-ordered names p (orders.Row word) = answer p (row_line word)
-ordered names p orders.Quit = answer p []
+-- a step is made by itself: it is ahead no longer
+abbrev pub walked_by : Place → Option Step → Answer
+walked_by p (Some step) =
+    let a = made_at p (step ∷ []) in
+    answer (place a.place.session (steps_ahead (drop 1 (all_ahead p.ahead)) []) a.place.declared) a.text
+walked_by p None = answer p (codes "no step ahead" ++ end_of_line)
 
--- The answer to a line that asks this. A line that asks nothing is answered why, and what may stand there, and leaves everything
+-- the first of the steps ahead, if there is one, is made so
+abbrev pub walked_at : Place → Answer
+walked_at p = walked_by p (slice_get (all_ahead p.ahead) 0)
+
+-- what was found of all runs is told, and the steps of a run that fails are those ahead
+abbrev pub checked_at : Place → Found → Answer
+checked_at p found = answer (place p.session (ahead_found p.ahead found) p.declared) (found_text found)
+
+-- The answer to an order. What a command of a script does and writes, it does and writes here. The notes of watches are those that `debug` writes at its end.
+abbrev pub ordered : LinedObject → Place → Order → Answer
+ordered lined p orders.Nothing = answer p []
+ordered lined p (orders.Script command) = answer_by (follow lined.object.layout (stand p.session p.ahead []) command) (declared_after command p.declared)
+ordered lined p (orders.Make step) = made_at p (step ∷ [])
+ordered lined p orders.Walk = walked_at p
+ordered lined p (orders.Pick n) = picked_at p n (slice_get (next_steps false p.session.past.state) n)
+ordered lined p (orders.Finish processor) = made_at p (runs_of processor)
+ordered lined p (orders.Run n) = made_at p (steps_to (is_met Nowhere) (min n most_steps) p.session.past.state)
+ordered lined p (orders.Until processor n) = made_at p (steps_until processor n p.session.past.state)
+ordered lined p (orders.Undo n) = unmade_at p n
+ordered lined p (orders.Goto n) = gone_to p n
+ordered lined p orders.Reverse = reversed_at p
+ordered lined p (orders.All cond) = answer p (all_of p.session.past.state cond)
+ordered lined p (orders.Broken cond) = answer p (broken_of p.session.past.state cond)
+ordered lined p (orders.Set image) = answer p (set_of p.session.past.state image)
+ordered lined p (orders.Why image) = answer p (why_of lined p.session.past.history image)
+ordered lined p (orders.CrashTo image) = crashed_at p (closed_set_of p.session.past.state image)
+ordered lined p orders.Info = answer p (info_text p.declared)
+ordered lined p (orders.Delete id) = deleted_at p id
+ordered lined p orders.Ahead = answer p (steps_text (all_ahead p.ahead))
+ordered lined p orders.List = answer p (list_text lined p.session.past.state)
+ordered lined p orders.Next = answer p (next_text lined.object.layout p.session.past.state)
+ordered lined p (orders.Word word) = answer p (word_text lined.object.layout p.session.past.state word)
+ordered lined p (orders.Register processor r) = answer p (register_text p.session.past.state processor r)
+ordered lined p orders.Notes = answer p (flat_map (watch_text lined.object.layout) p.session.watches)
+ordered lined p orders.History = answer p (steps_text p.session.past.history)
+ordered lined p orders.Help = answer p help_text
+ordered lined p (orders.Row word) = answer p (row_line word)
+ordered lined p orders.Quit = answer p []
+
+-- The answer to a line that asks this, by what was found for it, where it asks of all runs. A line that asks nothing is answered why, and what may stand there, and leaves everything
 -- as it is.
-abbrev pub answered : NamedLines → Place → List ℕ → Result Asked LineFault → Answer
-answered names p line (Ok (asks.Stop id cond)) = armed_at p line id cond
-answered names p line (Ok (asks.Watch order)) = watched_at p line order.id order.word
-answered names p line (Ok (asks.Order order)) = ordered names p order
-answered names p line (Err fault) = answer p (line_fault_text fault ++ end_of_line ++ hint_text line)
+abbrev pub answered : LinedObject → Place → List ℕ → Result Asked LineFault → Found → Answer
+answered lined p line (Ok (asks.Stop id cond)) found = armed_at p line id cond
+answered lined p line (Ok (asks.Watch order)) found = watched_at p line order.id order.word
+answered lined p line (Ok (asks.Check cond)) found = checked_at p found
+answered lined p line (Ok (asks.Order order)) found = ordered lined p order
+answered lined p line (Err fault) found = answer p (line_fault_text fault ++ end_of_line ++ hint_text line)
 
 -- the answer to a line
-abbrev pub answer_to : NamedLines → Place → List ℕ → Answer
-answer_to names p line = answered names p line (asked_of names line)
+abbrev pub answer_to : LinedObject → Place → List ℕ → Found → Answer
+answer_to lined p line found = answered lined p line (asked_of lined.object.layout line) found
+
+-- What may be found for a line that asks this: of all runs what is right of them, and of anything else nothing is looked for.
+abbrev pub MayFind : LinedObject → Place → Result Asked LineFault → Found → Type 0
+MayFind lined p (Ok (asks.Stop id cond)) found = Unit {0}
+MayFind lined p (Ok (asks.Watch order)) found = Unit {0}
+MayFind lined p (Ok (asks.Check cond)) found = IsFound lined p.session.past.history cond found
+MayFind lined p (Ok (asks.Order order)) found = Unit {0}
+MayFind lined p (Err fault) found = Unit {0}
 
 -- the debugger, as the one who is talked with
-abbrev pub partner : NamedLines → Partner Place
-partner names = record {
+abbrev pub partner : LinedObject → Partner Place Found
+partner lined = record {
   prompt = codes "px86> ";
-  reply = λ p line. (answer_to names p line).text;
-  next = λ p line. (answer_to names p line).place;
+  MayFind = λ p line found. MayFind lined p (asked_of lined.object.layout line) found;
+  reply = λ p line found. (answer_to lined p line found).text;
+  next = λ p line found. (answer_to lined p line found).place;
   is_last = λ line. is_word line (codes "quit");
 }

@@ -73,11 +73,15 @@ step_of (Do command) = gathered command
 unfoldable pub step_on : NamedLines → List ℕ → Result Step BadRow
 step_on names behind = row_of names behind >>= step_of
 
--- what comes after `step` orders
+-- what comes after `step` orders, if something does
 unfoldable pub make_as : NamedLines → List ℕ → Result Order LineFault
 make_as names behind = do
   step ← refused_as (λ bad. BadLine) (step_on names behind)
   Ok (orders.Make step)
+
+-- what `step` orders, by what comes after it: the first of the steps ahead is made, if that is nothing
+abbrev pub step_as : NamedLines → List ℕ → Result Order LineFault
+step_as names behind = if length (past_blanks behind) == 0 then Ok orders.Walk else make_as names behind
 
 -- a number, by a piece and what is behind it: that is nothing but blanks
 unfoldable pub number_in : List ℕ × List ℕ → Result ℕ LineFault
@@ -194,12 +198,14 @@ lone_of line =
     else if is_word line (codes "info") then Some orders.Info
     else if is_word line (codes "history") then Some orders.History
     else if is_word line (codes "reverse") then Some orders.Reverse
+    else if is_word line (codes "list") then Some orders.List
+    else if is_word line (codes "ahead") then Some orders.Ahead
     else None
 
 -- what a line orders whose first piece is a word that has more behind it, or a number
 abbrev pub worded_of : NamedLines → List ℕ × List ℕ → Result Order LineFault
 worded_of names piece =
-    if bytes_eq piece.0 (codes "step") then make_as names piece.1
+    if bytes_eq piece.0 (codes "step") then step_as names piece.1
     else if bytes_eq piece.0 (codes "run") then run_as piece.1
     else if bytes_eq piece.0 (codes "until") then until_as piece.1
     else if bytes_eq piece.0 (codes "finish") then finish_as piece.1
@@ -215,11 +221,27 @@ abbrev pub first_of : Option Order → Result Order LineFault → Result Order L
 first_of (Some order) other = Ok order
 first_of None other = other
 
+-- what is asked of all runs, by what comes after `check`: a condition, before which `--all` may stand
+abbrev pub asked_of_runs : List ℕ → List ℕ
+asked_of_runs text = if bytes_eq (piece_of text).0 (codes "--all") then (piece_of text).1 else text
+
+-- what comes after `check` asks: a condition is asked of all that crashes may leave in all runs
+unfoldable pub check_as : NamedLines → List ℕ → Result Asked LineFault
+check_as names text = do
+  cond ← refused_as Condition (condition_of names (asked_of_runs text))
+  Ok (asks.Check cond)
+
 -- what comes after `all` orders: a condition is asked of all images
 unfoldable pub all_as : NamedLines → List ℕ → Result Order LineFault
 all_as names text = do
   cond ← refused_as Condition (condition_of names text)
   Ok (orders.All cond)
+
+-- what comes after `images` orders, if anything does: the images for which a condition does not hold
+unfoldable pub broken_as : NamedLines → List ℕ → Result Order LineFault
+broken_as names text = do
+  cond ← refused_as Condition (condition_of names text)
+  Ok (orders.Broken cond)
 
 -- the values of an image: one for each word, in order, and nothing else
 unfoldable pub image_as : NamedLines → List ℕ → Result (List ℕ) LineFault
@@ -231,6 +253,12 @@ set_as names text = do
   image ← image_as names text
   Ok (orders.Set image)
 
+-- what comes after `why` orders: which writes are missing in these values
+unfoldable pub why_as : NamedLines → List ℕ → Result Order LineFault
+why_as names text = do
+  image ← image_as names text
+  Ok (orders.Why image)
+
 -- what comes after `crash` orders, if anything does: a crash is to leave these values
 unfoldable pub crash_as : NamedLines → List ℕ → Result Order LineFault
 crash_as names text = do
@@ -241,11 +269,13 @@ crash_as names text = do
 abbrev pub imaged_of : NamedLines → List ℕ × List ℕ → Result Order LineFault
 imaged_of names piece =
     if bytes_eq piece.0 (codes "all") then all_as names piece.1
+    else if bytes_eq piece.0 (codes "images") then broken_as names piece.1
     else if bytes_eq piece.0 (codes "set") then set_as names piece.1
+    else if bytes_eq piece.0 (codes "why") then why_as names piece.1
     else if bytes_eq piece.0 (codes "crash") then crash_as names piece.1
     else worded_of names piece
 
--- what a line orders by the words that are none of a script
+-- what a line orders by the words that are none of a script, but for `check`
 abbrev pub own_of : NamedLines → List ℕ → Result Order LineFault
 own_of names line = first_of (lone_of line) (imaged_of names (piece_of (uncommented line)))
 
@@ -256,10 +286,16 @@ abbrev pub as_asked : Result Order LineFault → Result Asked LineFault
 as_asked (Ok order) = Ok (asks.Order order)
 as_asked (Err fault) = Err fault
 
+-- what a line asks that is none of a script
+abbrev pub own_asked : NamedLines → List ℕ → Result Asked LineFault
+own_asked names line =
+    let piece = piece_of (uncommented line) in
+    if bytes_eq piece.0 (codes "check") then check_as names piece.1 else as_asked (own_of names line)
+
 -- What a line asks, by what it says in a script. Where it is a line of a script, it asks that and nothing else.
 abbrev pub asked_by : NamedLines → List ℕ → Result Said BadRow → Result Asked LineFault
 asked_by names line (Ok row) = asked_as names row
-asked_by names line (Err bad) = as_asked (own_of names line)
+asked_by names line (Err bad) = own_asked names line
 
 -- what a line asks
 abbrev pub asked_of : NamedLines → List ℕ → Result Asked LineFault

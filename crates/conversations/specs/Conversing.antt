@@ -1,6 +1,6 @@
 -- The whole command: the program is read, and then there is a conversation with a session that begins at its machine's state.
 use Rattle.std.specs.Prelude.{◌≡◌, ◌⊎◌, List, [], Result, Ok, Err}
-use Rattle.isa.specs.Objects.{Object}
+use Rattle.litmus_text.specs.declared.text_lines.LinedObject.{LinedObject}
 use Rattle.machine.specs.Objects.{opening}
 use Rattle.outcomes.specs.declared.or_no_memory.OrNoMemory.{OrNoMemory}
 use Rattle.commands.specs.declared.fault.Device.TheVariants.{Read, Write}
@@ -12,7 +12,7 @@ use Rattle.commands.specs.declared.status.Status.{Status}
 use Rattle.commands.specs.declared.status.Status.TheVariants.{Done}
 use Rattle.commands.specs.declared.transfer.ReadFault.{ReadFault}
 use Rattle.commands.specs.Faults.{missing, unread_at}
-use Rattle.commands.specs.Programs.{program_work}
+use Rattle.commands.specs.Programs.{lined_work}
 use Rattle.commands.specs.Serving.{IsNotReadWhole, IsReadWhole, Sources, Used, after, before}
 use Rattle.commands.specs.Works.{Makes}
 use Rattle.talks.specs.declared.fault.TalkFault.{TalkFault}
@@ -39,21 +39,21 @@ ReadsProgram program (Ok both) = IsReadWhole (before program) (after program) bo
 ReadsProgram program (Err fault) =
     (why : OrNoMemory ReadFault) × IsNotReadWhole (before program) (after program) why × (fault ≡ unread_at stages.Text why)
 
--- These bytes, if they were read, say this program, or there is a fault.
-abbrev pub MakesObject : Result Sources Fault → Result Object Fault → Type 0
-MakesObject (Ok both) made = Makes (program_work both.program) made
+-- These bytes, if they were read, say this program, with the lines of its text, or there is a fault.
+abbrev pub MakesObject : Result Sources Fault → Result LinedObject Fault → Type 0
+MakesObject (Ok both) made = Makes (lined_work both.program) made
 MakesObject (Err fault) made = made ≡ Err fault
 
 -- A program is read from a source.
-pub record ReadsObject {P : Type 0} (program : Used P) (made : Result Object Fault) : Type 0 where
+pub record ReadsObject {P : Type 0} (program : Used P) (made : Result LinedObject Fault) : Type 0 where
   pub read : Result Sources Fault
   pub reads : ReadsProgram program read
   pub makes : MakesObject read made
 
 -- There is a conversation, which begins at the opening state of the program's machine.
-pub record Answers (object : Object) (Went : List Event → Type 0) (result : Result Status Fault) : Type 0 where
+pub record Answers (lined : LinedObject) (Went : List Event → Type 0) (result : Result Status Fault) : Type 0 where
   pub talk : Result (Unit {0}) TalkFault
-  pub talks : Talks (partner object.layout) Went (first_place (opening object)) talk
+  pub talks : Talks (partner lined) Went (first_place (opening lined.object)) talk
   pub is : result ≡ answer_after talk
 
 -- Nothing goes on at the terminal, and this fault is answered.
@@ -61,12 +61,12 @@ abbrev pub IsNotBegun : (List Event → Type 0) → Fault → Result Status Faul
 IsNotBegun Went fault result = Went [] × (result ≡ Err fault)
 
 -- Where a program was read, there is a conversation, unless there is no memory for its machine.
-abbrev pub AnswersOn : Result Object Fault → (List Event → Type 0) → Result Status Fault → Type 0
-AnswersOn (Ok object) Went result = Answers object Went result ⊎ IsNotBegun Went (missing stages.Machine) result
+abbrev pub AnswersOn : Result LinedObject Fault → (List Event → Type 0) → Result Status Fault → Type 0
+AnswersOn (Ok lined) Went result = Answers lined Went result ⊎ IsNotBegun Went (missing stages.Machine) result
 AnswersOn (Err fault) Went result = IsNotBegun Went fault result
 
 -- The program is read, and then there is a conversation at a terminal.
 pub record ConversesOn {P : Type 0} (program : Used P) (Went : List Event → Type 0) (result : Result Status Fault) : Type 0 where
-  pub object : Result Object Fault
+  pub object : Result LinedObject Fault
   pub reads : ReadsObject program object
   pub answers : AnswersOn object Went result

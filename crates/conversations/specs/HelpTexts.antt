@@ -22,7 +22,8 @@ row_of words.Settle = codes "settle              for the next go: the oldest mar
 row_of words.Crash = codes "crash               for the next go: the power fails, and recovery begins; crash V .. does so now, leaving these values, unless a stop comes before"
 row_of words.Go = codes "go                  makes these steps"
 row_of words.Continue = codes "continue            makes the rest of them after a stop, or after one that was refused, and the steps after it"
-row_of words.Step = codes "step STEP           makes this step now; those for the next go stay"
+row_of words.Ahead = codes "ahead               prints the steps that wait for go or continue, as a list of steps"
+row_of words.Step = codes "step [STEP]         makes this step now, or the first of those that are ahead; the others stay"
 row_of words.Run = codes "run [N]             makes the first step of next, again and again, up to a stop or N steps, at most 1000"
 row_of words.Until = codes "until P PLACE       makes the first step of next, again and again, up to where processor P is at PLACE, a stop or 1000 steps"
 row_of words.Finish = codes "finish P            makes exec P now, again and again, up to a stop, a refusal or 1000 steps"
@@ -33,10 +34,13 @@ row_of words.Undo = codes "undo [N]            goes back before the last step, o
 row_of words.Goto = codes "goto N              goes back to the state after the first N steps, as undo does; it never goes forward"
 row_of words.Reverse = codes "reverse             goes back, as undo does, to the last state behind in which a stop's condition holds, or to the beginning"
 row_of words.Show = codes "show                prints the machine's state"
+row_of words.List = codes "list                prints the program that each processor runs, with > before the place where it is"
 row_of words.Print = codes "print NAME          prints the values of a word; print P:REG the value of a register"
-row_of words.Images = codes "images              lists what a crash may leave"
+row_of words.Images = codes "images [COND]       lists what a crash may leave, or of that what makes COND false"
 row_of words.All = codes "all COND            says whether COND holds in all that a crash may leave, and if not, where it does not, as images --all does"
 row_of words.Set = codes "set V ..            prints which pending entries leave these values, one for each word, as images --set does"
+row_of words.Why = codes "why V ..            says which writes are missing where a crash leaves these values, and why each may be, as images --set --explain-image does"
+row_of words.Check = codes "check COND          asks COND of all that crashes may leave in all runs from here, as px86 check --all does; a run that fails is ahead then"
 row_of words.Values = codes "values NAME [NAME=V ..]   lists the values that a word may then have, where others have these"
 row_of words.Notes = codes "notes               prints the notes of each watch"
 row_of words.History = codes "history             prints the steps that led here, as a list of steps"
@@ -45,7 +49,7 @@ row_of words.Quit = codes "quit                ends; so does the end of the inpu
 
 -- the words that begin a line
 abbrev pub all_words : List Word
-all_words = words.Stop ∷ words.Watch ∷ words.Disarm ∷ words.Detach ∷ words.Info ∷ words.Delete ∷ words.Exec ∷ words.Drain ∷ words.Persist ∷ words.Settle ∷ words.Crash ∷ words.Go ∷ words.Continue ∷ words.Step ∷ words.Run ∷ words.Until ∷ words.Finish ∷ words.Next ∷ words.Number ∷ words.Back ∷ words.Undo ∷ words.Goto ∷ words.Reverse ∷ words.Show ∷ words.Print ∷ words.Images ∷ words.All ∷ words.Set ∷ words.Values ∷ words.Notes ∷ words.History ∷ words.Help ∷ words.Quit ∷ []
+all_words = words.Stop ∷ words.Watch ∷ words.Disarm ∷ words.Detach ∷ words.Info ∷ words.Delete ∷ words.Exec ∷ words.Drain ∷ words.Persist ∷ words.Settle ∷ words.Crash ∷ words.Go ∷ words.Continue ∷ words.Ahead ∷ words.Step ∷ words.Run ∷ words.Until ∷ words.Finish ∷ words.Next ∷ words.Number ∷ words.Back ∷ words.Undo ∷ words.Goto ∷ words.Reverse ∷ words.Show ∷ words.List ∷ words.Print ∷ words.Images ∷ words.All ∷ words.Set ∷ words.Why ∷ words.Check ∷ words.Values ∷ words.Notes ∷ words.History ∷ words.Help ∷ words.Quit ∷ []
 
 -- a row for each of them
 abbrev pub row_line : Word → Text

@@ -1,17 +1,19 @@
--- What is asked of the images of a state, and the steps behind which a crash leaves one of them.
-use Rattle.std.specs.Prelude.{ℕ, Some, List, [], ◌∷◌, ◌++◌, option_map, slice_get}
-use Rattle.std.specs.List.{cons_option, flat_map}
-use Rattle.lines_layout.specs.Lines.{line_of}
+-- What is asked of the images of a state.
+use Rattle.std.specs.Prelude.{ℕ, Option, Some, None, List}
+use Rattle.std.specs.List.{filter}
 use Rattle.lines_layout.specs.Names.{Text}
-use Rattle.images.specs.Images.{closed_set_of}
+use Rattle.litmus_text.specs.declared.text_lines.LinedObject.{LinedObject}
+use Rattle.images.specs.Images.{closed_set_of, images_of}
+use Rattle.images.specs.Truth.{fails_on}
+use Rattle.image_reasons.specs.declared.missing.Missing.{Missing}
+use Rattle.image_reasons.specs.Reasons.{missing_after}
 use Rattle.machine.specs.State.{State}
 use Rattle.machine.specs.declared.step.Step.{Step}
-use Rattle.machine.specs.declared.step.Step.TheVariants.{Crash, Persist, Settle}
-use Rattle.persist_buffer.specs.declared.entry.PendingEntry.{PendingEntry}
-use Rattle.persist_buffer.specs.declared.entry.PendingEntry.TheVariants.{Marker, Write}
 use Rattle.conditions.specs.Formulas.{Formula}
 use Rattle.pending_images.specs.declared.total.Count.{Count}
 use Rattle.pending_images.specs.declared.total.Count.TheVariants.{Number, More}
+use Rattle.commands.specs.ImageTexts.{images_text}
+use Rattle.commands.specs.MissingTexts.{image_lines}
 use Rattle.jobs.specs.ImageReports.{all_text, candidates_text, count_in, counterexample, set_text}
 
 -- whether a condition holds for all images, by the first for which it does not; where there are more candidates than are counted, only that
@@ -27,15 +29,20 @@ all_of s cond = all_on s cond (count_in s)
 abbrev pub set_of : State → List ℕ → Text
 set_of s image = set_text (closed_set_of s image)
 
--- the step by which an entry leaves the pending list
-abbrev pub passing : PendingEntry → Step
-passing (Write word value) = Persist (line_of word)
-passing (Marker line) = Settle
+-- the images for which a condition does not hold, and how many they are; where there are more candidates than are counted, only that
+abbrev pub broken_on : State → Formula → Count → Text
+broken_on s cond (Number n) = images_text (filter (fails_on s cond) (images_of s))
+broken_on s cond More = candidates_text More
 
--- the steps by which the entries at these places do, one after another
-abbrev pub passing_at : List PendingEntry → List ℕ → List Step
-passing_at pending places = flat_map (λ place. cons_option (option_map passing (slice_get pending place)) []) places
+-- the same of a state, whose candidates are counted
+abbrev pub broken_of : State → Formula → Text
+broken_of s cond = broken_on s cond (count_in s)
 
--- these, and then the crash
-abbrev pub crash_behind : State → List ℕ → List Step
-crash_behind s places = passing_at s.memory.pending places ++ Crash ∷ []
+-- what is said of an image in which these writes are missing: its words by name, these writes, and why each may be missing; or that it is none
+abbrev pub told_of : LinedObject → List ℕ → Option (List Missing) → Text
+told_of lined image None = set_text None
+told_of lined image (Some missing) = image_lines lined.object.layout lined.lines image (Some missing)
+
+-- the same of an image of the state to which these steps of a program lead
+abbrev pub why_of : LinedObject → List Step → List ℕ → Text
+why_of lined steps image = told_of lined image (missing_after lined.object steps image)

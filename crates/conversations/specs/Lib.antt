@@ -1,12 +1,16 @@
 pub mod Answered
 pub mod Asking
+pub mod Checking
 pub mod Conversing
+pub mod Crashing
 pub mod Desks
 pub mod Eager
 pub mod HelpTexts
 pub mod Imaged
 pub mod LineFaults
+pub mod Listed
 pub mod Printed
 pub mod Reversing
 pub mod SameText
+pub mod Staying
 pub mod Turning

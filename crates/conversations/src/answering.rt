@@ -10,28 +10,31 @@ ghost use Rattle.debugger.specs.Notes.{meaning};
 ghost use Rattle.debugger.specs.Writes.{word_selection};
 ghost use Rattle.images.specs.Images.{closed_set_of};
 ghost use Rattle.jobs.specs.NextSteps.{next_steps};
-ghost use Rattle.conversations.specs.Imaged.{crash_behind};
-ghost use Rattle.conversations.specs.Answered.{answer, answered, armed_at, crashed_at, deleted_at, gone_to, ordered, picked_at, place, made_at, place_by, unmade_at, watched_at, KeepsShape};
+ghost use Rattle.explore.specs.Falls.{fall_at};
+ghost use Rattle.conversations.specs.Answered.{answer, answered, armed_at, crashed_at, deleted_at, gone_to, ordered, picked_at, place, made_at, place_by, unmade_at, walked_at, watched_at, KeepsShape};
 ghost use Rattle.conversations.specs.Asking.{as_asked};
+ghost use Rattle.conversations.specs.Checking.{nothing_found};
 ghost use Rattle.conversations.specs.Desks.{Declaration};
-ghost use Rattle.conversations.specs.Eager.{eager_steps, is_at, most_steps, runs_of, steps_to};
+ghost use Rattle.conversations.specs.Eager.{is_met, most_steps, runs_of, steps_to, steps_until};
 ghost use Rattle.conversations.specs.HelpTexts.{hint_text};
 ghost use Rattle.conversations.specs.LineFaults.{line_fault_text};
 
 use crate::asked::Order;
 use crate::declaration::{declare, forget, forget_by, push_info};
-use crate::desk::Desk;
-use crate::eager::{MOST_STEPS, eager_steps, runs_of, steps_to};
+use crate::desk::{Desk, take_first};
+use crate::eager::{Aim, MOST_STEPS, runs_of, steps_to, steps_until};
 use crate::help::{push_help, push_hint, push_row};
-use crate::imaged::{crash_behind, push_all_of, push_set_of};
+use crate::imaged::{fall_steps, push_all_of, push_broken, push_set_of, push_why};
 use crate::line_fault::LineFault;
+use crate::listed::push_list;
 use crate::printed::{push_next_steps, push_register, push_steps, push_word};
 use crate::reversing::reverse;
 use debug_scripts::{Command, PlayFault, follow, push_each};
 use debugger::{Attached, Halt, Session, SessionFault, Stop};
 use images::{Image, closed_set};
 use jobs::{next_steps, push_set};
-use lines_layout::{Layout, WordId};
+use lines_layout::WordId;
+use litmus_text::LinedObject;
 use machine::Step;
 use outcomes::OrNoMemory;
 use std::alloc::{AllocError, Global};
@@ -93,6 +96,24 @@ fn pick(
     }
 }
 
+/// Makes the first of the steps ahead, if there is one, and appends to a text that is empty where it halted; or appends that there is
+/// none.
+///
+/// # Errors
+///
+/// What memory was refused to. The step may have been made.
+fn walk(session: &mut Session, desk: &mut Desk, text: &mut String) -> Result<(), PlayFault>
+    requires empty { string_bytes text.old ≡ [] }
+    ensures answers { OnOk result (answer (place_by meaning_of session.new desk.new) (string_bytes text.new)
+        ≡ walked_at (place_by meaning_of session.old desk.old)) }
+    ensures shape { KeepsShape (session_value meaning_of session.old) (session_value meaning_of session.new) }
+{
+    match take_first(&mut desk.ahead) {
+        Some(step) => make(session, text, &[step]),
+        None => Ok(writeln!(text, "no step ahead")?),
+    }
+}
+
 /// Has a processor run, again and again, and appends to a text that is empty where it halted.
 ///
 /// # Errors
@@ -121,15 +142,20 @@ fn finish(
 fn run(alloc: Global, session: &mut Session, text: &mut String, count: u32) -> Result<(), PlayFault>
     requires empty { string_bytes text.old ≡ [] }
     ensures answers { OnOk result ((a : Ahead) (ds : List Declaration) → answer (place (session_value meaning_of session.new) a ds) (string_bytes text.new)
-        ≡ made_at (place (session_value meaning_of session.old) a ds) (eager_steps (min count most_steps) session.old.past.state)) }
+        ≡ made_at (place (session_value meaning_of session.old) a ds) (steps_to (is_met Aim.Nowhere) (min count most_steps) session.old.past.state)) }
     ensures shape { KeepsShape (session_value meaning_of session.old) (session_value meaning_of session.new) }
 {
-    let steps = eager_steps(alloc, session.past.machine(), count.min(MOST_STEPS))?;
+    let steps = steps_to(
+        alloc,
+        session.past.machine(),
+        Aim::Nowhere,
+        count.min(MOST_STEPS),
+    )?;
     make(session, text, &steps)
 }
 
 /// Makes the first step that may come, again and again, up to where a processor is at a place, and appends to a text that is empty
-/// where that halted.
+/// where that halted: at once, where there is no such processor.
 ///
 /// # Errors
 ///
@@ -143,10 +169,10 @@ fn until(
 ) -> Result<(), PlayFault>
     requires empty { string_bytes text.old ≡ [] }
     ensures answers { OnOk result ((a : Ahead) (ds : List Declaration) → answer (place (session_value meaning_of session.new) a ds) (string_bytes text.new)
-        ≡ made_at (place (session_value meaning_of session.old) a ds) (steps_to (is_at processor end) most_steps session.old.past.state)) }
+        ≡ made_at (place (session_value meaning_of session.old) a ds) (steps_until processor end session.old.past.state)) }
     ensures shape { KeepsShape (session_value meaning_of session.old) (session_value meaning_of session.new) }
 {
-    let steps = steps_to(alloc, session.past.machine(), processor, end)?;
+    let steps = steps_until(alloc, session.past.machine(), processor, end)?;
     make(session, text, &steps)
 }
 
@@ -163,10 +189,10 @@ fn crash_after(
 ) -> Result<(), PlayFault>
     requires empty { string_bytes text.old ≡ [] }
     ensures answers { OnOk result ((a : Ahead) (ds : List Declaration) → answer (place (session_value meaning_of session.new) a ds) (string_bytes text.new)
-        ≡ made_at (place (session_value meaning_of session.old) a ds) (crash_behind session.old.past.state places.now)) }
+        ≡ made_at (place (session_value meaning_of session.old) a ds) (fall_at session.old.past.state.memory.pending places.now)) }
     ensures shape { KeepsShape (session_value meaning_of session.old) (session_value meaning_of session.new) }
 {
-    let steps = crash_behind(alloc, &session.look(), places)?;
+    let steps = fall_steps(alloc, &session.look(), places)?;
     make(session, text, &steps)
 }
 
@@ -337,19 +363,26 @@ fn delete(
 ///
 /// What memory was refused to. What the command does may have been done.
 fn follow_at(
-    layout: &Layout,
+    lined: &LinedObject,
     session: &mut Session,
     desk: &mut Desk,
     text: &mut String,
     command: &Command,
 ) -> Result<(), PlayFault>
-    requires shape { HasShape layout.now (session_value meaning_of session.old) }
+    requires shape { HasShape lined.now.object.layout (session_value meaning_of session.old) }
     requires empty { string_bytes text.old ≡ [] }
     ensures answers { OnOk result (answer (place_by meaning_of session.new desk.new) (string_bytes text.new)
-        ≡ ordered layout.now (place_by meaning_of session.old desk.old) (Order.Script command.now)) }
-    ensures shape { OnOk result (HasShape layout.now (session_value meaning_of session.new)) }
+        ≡ ordered lined.now (place_by meaning_of session.old desk.old) (Order.Script command.now)) }
+    ensures shape { OnOk result (HasShape lined.now.object.layout (session_value meaning_of session.new)) }
 {
-    follow(desk.alloc, layout, session, &mut desk.ahead, text, command)?;
+    follow(
+        desk.alloc,
+        lined.object.layout(),
+        session,
+        &mut desk.ahead,
+        text,
+        command,
+    )?;
     forget_by(&mut desk.declared, command);
     Ok(())
 }
@@ -360,22 +393,24 @@ fn follow_at(
 ///
 /// What memory was refused to. What is ordered may have been done.
 fn obey(
-    layout: &Layout,
+    lined: &LinedObject,
     session: &mut Session,
     desk: &mut Desk,
     text: &mut String,
     order: &Order,
 ) -> Result<(), PlayFault>
-    requires shape { HasShape layout.now (session_value meaning_of session.old) }
+    requires shape { HasShape lined.now.object.layout (session_value meaning_of session.old) }
     requires empty { string_bytes text.old ≡ [] }
     ensures answers { OnOk result (answer (place_by meaning_of session.new desk.new) (string_bytes text.new)
-        ≡ ordered layout.now (place_by meaning_of session.old desk.old) order.now) }
-    ensures shape { OnOk result (HasShape layout.now (session_value meaning_of session.new)) }
+        ≡ ordered lined.now (place_by meaning_of session.old desk.old) order.now) }
+    ensures shape { OnOk result (HasShape lined.now.object.layout (session_value meaning_of session.new)) }
 {
+    let layout = lined.object.layout();
     match order {
         Order::Nothing | Order::Quit => Ok(()),
-        Order::Script(command) => follow_at(layout, session, desk, text, command),
+        Order::Script(command) => follow_at(lined, session, desk, text, command),
         Order::Make(step) => make(session, text, &[*step]),
+        Order::Walk => walk(session, desk, text),
         Order::Pick(number) => pick(desk.alloc, session, text, *number),
         Order::Run(count) => run(desk.alloc, session, text, *count),
         Order::Until(processor, place) => until(desk.alloc, session, text, *processor, *place),
@@ -384,10 +419,14 @@ fn obey(
         Order::Goto(kept) => Ok(go_to(session, text, *kept as usize)?),
         Order::Reverse => Ok(reverse(session, text)?),
         Order::All(cond) => Ok(push_all_of(desk.alloc, text, &session.look(), cond)?),
+        Order::Broken(cond) => Ok(push_broken(desk.alloc, text, &session.look(), cond)?),
         Order::Set(image) => Ok(push_set_of(desk.alloc, text, &session.look(), image)?),
+        Order::Why(image) => Ok(push_why(desk.alloc, text, lined, session.past.steps(), image)?),
         Order::CrashTo(image) => crash_to(desk.alloc, session, text, image),
         Order::Info => Ok(push_info(text, &desk.declared)?),
         Order::Delete(id) => Ok(delete(session, desk, text, *id)?),
+        Order::Ahead => Ok(push_steps(desk.alloc, text, desk.ahead.all())?),
+        Order::List => Ok(push_list(text, lined, &session.look())?),
         Order::Next => Ok(push_next_steps(desk.alloc, text, layout, session.past.machine())?),
         Order::Word(word) => Ok(push_word(text, layout, &session.look(), *word)?),
         Order::Register(p, r) => Ok(push_register(text, &session.look(), *p, *r)?),
@@ -404,21 +443,21 @@ fn obey(
 ///
 /// What memory was refused to. What the line orders may have been done.
 pub(crate) fn answer(
-    layout: &Layout,
+    lined: &LinedObject,
     session: &mut Session,
     desk: &mut Desk,
     text: &mut String,
     line: &Line,
     order: &Result<Order, LineFault>,
 ) -> Result<(), PlayFault>
-    requires shape { HasShape layout.now (session_value meaning_of session.old) }
+    requires shape { HasShape lined.now.object.layout (session_value meaning_of session.old) }
     requires empty { string_bytes text.old ≡ [] }
     ensures answers { OnOk result (answer (place_by meaning_of session.new desk.new) (string_bytes text.new)
-        ≡ answered layout.now (place_by meaning_of session.old desk.old) line.now.bytes.items (as_asked order.now)) }
-    ensures shape { OnOk result (HasShape layout.now (session_value meaning_of session.new)) }
+        ≡ answered lined.now (place_by meaning_of session.old desk.old) line.now.bytes.items (as_asked order.now) nothing_found) }
+    ensures shape { OnOk result (HasShape lined.now.object.layout (session_value meaning_of session.new)) }
 {
     match order {
-        Ok(order) => obey(layout, session, desk, text, order),
+        Ok(order) => obey(lined, session, desk, text, order),
         Err(fault) => Ok(push_fault(text, line, *fault)?),
     }
 }

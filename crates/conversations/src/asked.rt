@@ -1,9 +1,10 @@
 //! What a line of a conversation asks.
+ghost use Rattle.std.specs.Prelude.{◌≡◌};
 ghost use Rattle.outcomes.specs.Calls.{Answers};
 ghost use Rattle.outcomes.specs.Faults.{fault_in};
 ghost use Rattle.text_tokens.specs.Cursors.{unread};
 ghost use Rattle.debug_scripts.specs.ReadRows.{said};
-ghost use Rattle.conversations.specs.Asking.{all_as, asked_as, asked_of, as_asked, crash_as, image_as, imaged_of, own_of, set_as, stop_as, values_as};
+ghost use Rattle.conversations.specs.Asking.{all_as, asked_as, asked_of, asked_of_runs, as_asked, broken_as, check_as, crash_as, image_as, imaged_of, own_asked, own_of, set_as, stop_as, values_as, why_as};
 
 use crate::help::Word;
 use crate::line_fault::LineFault;
@@ -29,6 +30,8 @@ pub enum Asked {
     Stop(u32, Cond),
     /// A watch of a word.
     Watch(WatchOrder),
+    /// Whether a condition holds for all that crashes may leave in all runs from here.
+    Check(Cond),
     /// Something that a session does without a box that is made for it.
     Order(Order),
 }
@@ -42,6 +45,8 @@ pub enum Order {
     Script(Command),
     /// One step is made, by itself.
     Make(Step),
+    /// The first of the steps ahead is made, by itself.
+    Walk,
     /// The first step that may come is made, again and again, at most so many times.
     Run(u32),
     /// The first step that may come is made, again and again, up to where the processor of this number is at this place.
@@ -54,6 +59,10 @@ pub enum Order {
     Goto(u32),
     /// Steps are taken back, and their notes, up to the last state behind in which the condition of a stop holds.
     Reverse,
+    /// The steps ahead.
+    Ahead,
+    /// The program that each processor runs, and where it is.
+    List,
     /// The steps that may come next.
     Next,
     /// The step of this number among those is made, by itself.
@@ -64,8 +73,12 @@ pub enum Order {
     Register(u32, Reg),
     /// Whether a condition holds for all that a crash may leave.
     All(Cond),
+    /// The images for which a condition does not hold.
+    Broken(Cond),
     /// Which pending entries leave an image.
     Set(Image),
+    /// Which writes are missing in an image, and why each may be.
+    Why(Image),
     /// What leaves an image persists, and then there is a crash, unless a stop comes before.
     CrashTo(Image),
     /// The lines that declared stops and watches.
@@ -147,6 +160,18 @@ fn all_as(alloc: Global, layout: &Layout, text: &[u8]) -> Result<Order, OrNoMemo
     }
 }
 
+/// What comes after `images` orders, if anything does.
+#[tactic(auto, unfolding(crate::specs::Asking::broken_as))]
+fn broken_as(alloc: Global, layout: &Layout, text: &[u8]) -> Result<Order, OrNoMemory<LineFault>>
+    ensures { Answers fault_in (broken_as layout.now text.now) result }
+{
+    match read_cond(alloc, layout, text) {
+        Ok(cond) => Ok(Order::Broken(cond)),
+        Err(OrNoMemory::Fault(fault)) => Err(OrNoMemory::Fault(LineFault::Condition(fault))),
+        Err(OrNoMemory::NoMemory) => Err(OrNoMemory::NoMemory),
+    }
+}
+
 /// The values of an image: one for each word, in order, and nothing else.
 #[tactic(auto, unfolding(crate::specs::Asking::image_as, commands::specs::Works::Makes))]
 fn image_as(alloc: Global, layout: &Layout, text: &[u8]) -> Result<Image, OrNoMemory<LineFault>>
@@ -166,6 +191,17 @@ fn set_as(alloc: Global, layout: &Layout, text: &[u8]) -> Result<Order, OrNoMemo
 {
     match image_as(alloc, layout, text) {
         Ok(image) => Ok(Order::Set(image)),
+        Err(error) => Err(error),
+    }
+}
+
+/// What comes after `why` orders.
+#[tactic(auto, unfolding(crate::specs::Asking::why_as))]
+fn why_as(alloc: Global, layout: &Layout, text: &[u8]) -> Result<Order, OrNoMemory<LineFault>>
+    ensures { Answers fault_in (why_as layout.now text.now) result }
+{
+    match image_as(alloc, layout, text) {
+        Ok(image) => Ok(Order::Why(image)),
         Err(error) => Err(error),
     }
 }
@@ -193,8 +229,14 @@ fn imaged_in(
     if first == b"all".as_slice() {
         return all_as(alloc, layout, behind);
     }
+    if first == b"images".as_slice() {
+        return broken_as(alloc, layout, behind);
+    }
     if first == b"set".as_slice() {
         return set_as(alloc, layout, behind);
+    }
+    if first == b"why".as_slice() {
+        return why_as(alloc, layout, behind);
     }
     if first == b"crash".as_slice() {
         return crash_as(alloc, layout, behind);
@@ -218,8 +260,32 @@ fn own_in(alloc: Global, layout: &Layout, line: &[u8]) -> Result<Order, OrNoMemo
     }
 }
 
-/// What a line asks that is none of a script.
-fn own_asked(alloc: Global, layout: &Layout, line: &[u8]) -> Result<Asked, OrNoMemory<LineFault>>
+/// What is asked of all runs, by what comes after `check`.
+fn asked_of_runs(text: &[u8]) -> &[u8]
+    ensures { result.now ≡ asked_of_runs text.now }
+{
+    let (first, behind) = split_piece(text);
+    if first == b"--all".as_slice() {
+        behind
+    } else {
+        text
+    }
+}
+
+/// What comes after `check` asks.
+#[tactic(auto, unfolding(crate::specs::Asking::check_as))]
+fn check_as(alloc: Global, layout: &Layout, text: &[u8]) -> Result<Asked, OrNoMemory<LineFault>>
+    ensures { Answers fault_in (check_as layout.now text.now) result }
+{
+    match read_cond(alloc, layout, asked_of_runs(text)) {
+        Ok(cond) => Ok(Asked::Check(cond)),
+        Err(OrNoMemory::Fault(fault)) => Err(OrNoMemory::Fault(LineFault::Condition(fault))),
+        Err(OrNoMemory::NoMemory) => Err(OrNoMemory::NoMemory),
+    }
+}
+
+/// What a line asks that orders something.
+fn ordered_in(alloc: Global, layout: &Layout, line: &[u8]) -> Result<Asked, OrNoMemory<LineFault>>
     ensures { Answers fault_in (as_asked (own_of layout.now line.now)) result }
 {
     match own_in(alloc, layout, line) {
@@ -227,6 +293,17 @@ fn own_asked(alloc: Global, layout: &Layout, line: &[u8]) -> Result<Asked, OrNoM
         Err(OrNoMemory::Fault(fault)) => Err(OrNoMemory::Fault(fault)),
         Err(OrNoMemory::NoMemory) => Err(OrNoMemory::NoMemory),
     }
+}
+
+/// What a line asks that is none of a script.
+fn own_asked(alloc: Global, layout: &Layout, line: &[u8]) -> Result<Asked, OrNoMemory<LineFault>>
+    ensures { Answers fault_in (own_asked layout.now line.now) result }
+{
+    let (first, behind) = split_piece(before_comment(line));
+    if first == b"check".as_slice() {
+        return check_as(alloc, layout, behind);
+    }
+    ordered_in(alloc, layout, line)
 }
 
 /// What a line asks.

@@ -1,7 +1,7 @@
 //! The program is read, and then there is a conversation.
 ghost use Rattle.std.specs.Prelude.{◌≡◌, Ok};
 ghost use Rattle.commands.specs.Devices.{CanCountOneMore};
-ghost use Rattle.commands.specs.Programs.{program_work};
+ghost use Rattle.commands.specs.Programs.{lined_work};
 ghost use Rattle.commands.specs.Serving.{used};
 ghost use Rattle.commands.specs.Works.{Makes};
 ghost use Rattle.machine.specs.Objects.{opening};
@@ -11,9 +11,9 @@ ghost use Rattle.conversations.specs.Conversing.{answer_after, fault_of, Answers
 
 use crate::turns::talk;
 use commands::{
-    Device, Fault, Metered, Refused, Source, Sources, Stage, Status, read_program, read_sources,
+    Device, Fault, Metered, Refused, Source, Sources, Stage, Status, read_lined, read_sources,
 };
-use isa::Object;
+use litmus_text::LinedObject;
 use machine::Machine;
 use std::alloc::Global;
 use talks::{TalkFault, Terminal};
@@ -52,15 +52,15 @@ fn read_alone<P: Source>(alloc: Global, program: &mut P) -> Result<Sources, Faul
     }
 }
 
-/// What the program says that was read.
-fn object_in(alloc: Global, sources: &Sources) -> Result<Object, Fault>
-    ensures { Makes (program_work sources.now.program) result }
+/// What the program says that was read, and on which lines.
+fn object_in(alloc: Global, sources: &Sources) -> Result<LinedObject, Fault>
+    ensures { Makes (lined_work sources.now.program) result }
 {
-    read_program(alloc, &sources.program)
+    read_lined(alloc, &sources.program)
 }
 
 /// Reads the program, to its end, and understands it.
-fn read_object<P: Source>(alloc: Global, program: &mut P) -> Result<Object, Fault>
+fn read_object<P: Source>(alloc: Global, program: &mut P) -> Result<LinedObject, Fault>
     requires { CanCountOneMore (P.device program.old) }
     ensures { ReadsObject (used P.device program.old program.new) result }
 {
@@ -73,15 +73,15 @@ fn read_object<P: Source>(alloc: Global, program: &mut P) -> Result<Object, Faul
 /// A conversation about a machine in the opening state of a program.
 fn talk_about<T: Terminal>(
     alloc: Global,
-    object: &Object,
+    lined: &LinedObject,
     machine: Machine,
     terminal: &mut T,
 ) -> Result<(), TalkFault>
     requires ready { T.is_ready terminal.old }
-    requires machine { machine ≡ opening object.now }
-    ensures { Talks (partner object.now.layout) (T.went terminal.old terminal.new) (first_place (opening object.now)) result }
+    requires machine { machine ≡ opening lined.now.object }
+    ensures { Talks (partner lined.now) (T.went terminal.old terminal.new) (first_place (opening lined.now.object)) result }
 {
-    talk(alloc, object.layout(), machine, terminal)
+    talk(alloc, lined, machine, terminal)
 }
 
 /// Converses about a program that was read.
@@ -91,18 +91,18 @@ fn talk_about<T: Terminal>(
 /// M15, and then nothing goes on at the terminal; or why the conversation broke off.
 fn converse_on<T: Terminal>(
     alloc: Global,
-    object: Object,
+    lined: LinedObject,
     terminal: &mut T,
 ) -> Result<Status, Fault>
     requires ready { T.is_ready terminal.old }
-    ensures { AnswersOn (Ok object) (T.went terminal.old terminal.new) result }
+    ensures { AnswersOn (Ok lined) (T.went terminal.old terminal.new) result }
 {
-    let Ok(machine) = Machine::load(alloc, &object) else {
-        drop(object);
+    let Ok(machine) = Machine::load(alloc, &lined.object) else {
+        drop(lined);
         return Err(Stage::Machine.missing());
     };
-    let ended = talk_about(alloc, &object, machine, terminal);
-    drop(object);
+    let ended = talk_about(alloc, &lined, machine, terminal);
+    drop(lined);
     answer_after(ended)
 }
 
@@ -124,7 +124,7 @@ pub fn converse<P: Source, T: Terminal>(
     ensures { ConversesOn (used P.device program.old program.new) (T.went terminal.old terminal.new) result }
 {
     match read_object(alloc, program) {
-        Ok(object) => converse_on(alloc, object, terminal),
+        Ok(lined) => converse_on(alloc, lined, terminal),
         Err(fault) => Err(fault),
     }
 }

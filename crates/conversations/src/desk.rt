@@ -1,9 +1,10 @@
 //! What a conversation keeps beside its session.
-ghost use Rattle.std.specs.Prelude.{◌≡◌, []};
-ghost use Rattle.debug_scripts.specs.Ahead.{steps_ahead};
+ghost use Rattle.std.specs.Prelude.{◌≡◌, [], IfNone, IfSome, drop, slice_get};
+ghost use Rattle.debug_scripts.specs.Ahead.{all_ahead, steps_ahead};
 
 use crate::declaration::Declaration;
 use debug_scripts::StepsAhead;
+use machine::Step;
 use std::alloc::Global;
 
 /// What a conversation keeps beside its session.
@@ -29,4 +30,22 @@ impl Desk {
             declared: Vec::new(alloc),
         }
     }
+}
+
+/// The first of the steps ahead.
+fn first_ahead(ahead: &StepsAhead) -> Option<Step>
+    ensures { result ≡ slice_get (all_ahead ahead.now) 0 }
+{
+    ahead.all().first().copied()
+}
+
+/// Takes the first of the steps ahead, if there is one: it is ahead no longer.
+pub(crate) fn take_first(ahead: &mut StepsAhead) -> Option<Step>
+    ensures first { result ≡ slice_get (all_ahead ahead.old) 0 }
+    ensures taken { IfSome result (λ _. ahead.new ≡ steps_ahead (drop 1 (all_ahead ahead.old)) []) }
+    ensures same { IfNone result (ahead.new ≡ ahead.old) }
+{
+    let step = first_ahead(ahead)?;
+    ahead.pass(1);
+    Some(step)
 }

@@ -14,6 +14,8 @@ pub(crate) enum Heard {
     Stop(Line, u32, Cond, Cond),
     /// A line that declares a watch of a word.
     Watch(Line, WatchOrder),
+    /// A line that asks a condition of all runs.
+    Check(Line, Cond),
     /// Any other line: what it orders, or why it orders nothing.
     Other(Line, Result<Order, LineFault>),
 }

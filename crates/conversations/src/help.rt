@@ -21,6 +21,7 @@ pub enum Word {
     Crash,
     Go,
     Continue,
+    Ahead,
     Step,
     Run,
     Until,
@@ -32,10 +33,13 @@ pub enum Word {
     Goto,
     Reverse,
     Show,
+    List,
     Print,
     Images,
     All,
     Set,
+    Why,
+    Check,
     Values,
     Notes,
     History,
@@ -44,7 +48,7 @@ pub enum Word {
 }
 
 /// How many words begin a line.
-const COUNT: usize = 33;
+const COUNT: usize = 37;
 
 /// These words, in the order in which they are told.
 const WORDS: [Word; COUNT] = [
@@ -61,6 +65,7 @@ const WORDS: [Word; COUNT] = [
     Word::Crash,
     Word::Go,
     Word::Continue,
+    Word::Ahead,
     Word::Step,
     Word::Run,
     Word::Until,
@@ -72,10 +77,13 @@ const WORDS: [Word; COUNT] = [
     Word::Goto,
     Word::Reverse,
     Word::Show,
+    Word::List,
     Word::Print,
     Word::Images,
     Word::All,
     Word::Set,
+    Word::Why,
+    Word::Check,
     Word::Values,
     Word::Notes,
     Word::History,
@@ -109,7 +117,10 @@ impl Word {
             Word::Go => "go                  makes these steps",
             Word::Continue =>
                 "continue            makes the rest of them after a stop, or after one that was refused, and the steps after it",
-            Word::Step => "step STEP           makes this step now; those for the next go stay",
+            Word::Ahead =>
+                "ahead               prints the steps that wait for go or continue, as a list of steps",
+            Word::Step =>
+                "step [STEP]         makes this step now, or the first of those that are ahead; the others stay",
             Word::Run =>
                 "run [N]             makes the first step of next, again and again, up to a stop or N steps, at most 1000",
             Word::Until =>
@@ -129,13 +140,20 @@ impl Word {
             Word::Reverse =>
                 "reverse             goes back, as undo does, to the last state behind in which a stop's condition holds, or to the beginning",
             Word::Show => "show                prints the machine's state",
+            Word::List =>
+                "list                prints the program that each processor runs, with > before the place where it is",
             Word::Print =>
                 "print NAME          prints the values of a word; print P:REG the value of a register",
-            Word::Images => "images              lists what a crash may leave",
+            Word::Images =>
+                "images [COND]       lists what a crash may leave, or of that what makes COND false",
             Word::All =>
                 "all COND            says whether COND holds in all that a crash may leave, and if not, where it does not, as images --all does",
             Word::Set =>
                 "set V ..            prints which pending entries leave these values, one for each word, as images --set does",
+            Word::Why =>
+                "why V ..            says which writes are missing where a crash leaves these values, and why each may be, as images --set --explain-image does",
+            Word::Check =>
+                "check COND          asks COND of all that crashes may leave in all runs from here, as px86 check --all does; a run that fails is ahead then",
             Word::Values =>
                 "values NAME [NAME=V ..]   lists the values that a word may then have, where others have these",
             Word::Notes => "notes               prints the notes of each watch",

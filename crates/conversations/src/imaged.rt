@@ -1,12 +1,18 @@
 //! What is asked of the images of a state, and the steps behind which a crash leaves one of them.
-ghost use Rattle.std.specs.Prelude.{◌≡◌, ◌++◌, [], IfOk, OnOk, Some, option_copied, option_map, string_bytes};
-ghost use Rattle.std.specs.List.{cons_option};
+ghost use Rattle.std.specs.Prelude.{◌≡◌, ◌++◌, IfOk, OnOk, Some, option_copied, slice_index_or, string_bytes};
+ghost use Rattle.persist_buffer.specs.declared.entry.PendingEntry.TheVariants.{Marker};
+ghost use Rattle.std.specs.List.{filter};
+ghost use Rattle.images.specs.Truth.{fails_on, value_on};
+ghost use Rattle.image_reasons.specs.Reasons.{missing_found};
+ghost use Rattle.explore.specs.Falls.{fall_at, step_for};
 ghost use Rattle.jobs.specs.ImageReports.{all_text};
-ghost use Rattle.conversations.specs.Imaged.{all_of, crash_behind, passing, passing_at, set_of};
+ghost use Rattle.conversations.specs.Imaged.{all_of, broken_of, set_of, told_of, why_of};
 
-use commands::{push_candidates, push_values};
-use images::{Cond, Count, Image, all_images, closed_set, count, list};
+use commands::{push_candidates, push_image_lines, push_images, push_values};
+use image_reasons::{Missing, missing_writes};
+use images::{Cond, Count, Image, Operand, Values, all_images, closed_set, count, list};
 use jobs::push_set;
+use litmus_text::LinedObject;
 use machine::{PendingEntry, Step, View};
 use std::alloc::{AllocError, Global};
 
@@ -40,6 +46,65 @@ pub(crate) fn push_all_of(
     push_kept(text, all_images(cond, view, &images))
 }
 
+/// The values of operands in a machine's state, but for an image that is read as the persisted values.
+#[derive(Clone, Copy)]
+struct ImageValues<'v, 'm> {
+    view: &'v View<'m>,
+    image: &'v Image,
+}
+
+impl<'v, 'm> Values for ImageValues<'v, 'm> {
+    ghost use Rattle.images.specs.Truth.{value_on};
+
+    ghost values = { λ s. value_on s.view.now s.image.now };
+
+    fn value(&self, operand: Operand) -> Option<u64> {
+        image_value(self.view, self.image, operand)
+    }
+}
+
+/// The value of an operand where an image is read as the persisted values.
+fn image_value(view: &View, image: &Image, operand: Operand) -> Option<u64>
+    ensures { result ≡ value_on view.now image.now operand }
+{
+    match operand {
+        Operand::Persisted(word) => image.get(view.pending().shape(), word),
+        Operand::Coherent(word) => view.coherent(word),
+        Operand::Register(p, r) => view.reg(p as usize, r),
+    }
+}
+
+/// Whether a condition does not hold where an image is read as the persisted values.
+fn fails(cond: &Cond, view: &View, image: &Image) -> bool
+    ensures { result ≡ fails_on view.now cond.now image.now }
+{
+    !cond.holds(&ImageValues { view, image })
+}
+
+/// Drops the images for which a condition holds.
+fn keep_broken(images: &mut Vec<Image>, cond: &Cond, view: &View)
+    ensures { images.new.items ≡ filter (fails_on view.now cond.now) images.old.items }
+{
+    images.retain(|image| fails(cond, view, image));
+}
+
+/// Appends the images of a state for which a condition does not hold; or that there are too many candidates.
+pub(crate) fn push_broken(
+    alloc: Global,
+    text: &mut String,
+    view: &View<'_>,
+    cond: &Cond,
+) -> Result<(), AllocError>
+    ensures { OnOk result (string_bytes text.new ≡ string_bytes text.old ++ broken_of view.now cond.now) }
+{
+    let Some(countable) = count(view) else {
+        return push_candidates(text, Count::More);
+    };
+    let mut images = list(alloc, &countable)?;
+    keep_broken(&mut images, cond, view);
+    push_images(text, &images)
+}
+
 /// Appends which pending entries leave an image.
 pub(crate) fn push_set_of(
     alloc: Global,
@@ -53,51 +118,61 @@ pub(crate) fn push_set_of(
     push_set(text, &found)
 }
 
-/// The step by which an entry leaves the pending list.
-fn passing(entry: PendingEntry) -> Step
-    ensures { result ≡ passing entry }
+/// Appends what is said of an image in which these writes are missing, or that it is none.
+fn push_told(
+    text: &mut String,
+    lined: &LinedObject,
+    image: &Image,
+    missing: &Option<Vec<Missing>>,
+) -> Result<(), AllocError>
+    ensures { OnOk result (string_bytes text.new ≡ string_bytes text.old ++ told_of lined.now image.now (missing_found missing.now)) }
 {
-    match entry {
-        PendingEntry::Write(word, _) => Step::Persist(word.line().number() as u32),
-        PendingEntry::Marker(_) => Step::Settle,
+    match missing {
+        Some(_) => push_image_lines(text, lined.object.layout(), &lined.lines, image, missing),
+        None => push_set(text, &None),
     }
 }
 
-/// Appends the step by which an entry leaves the pending list, if there is one.
-fn push_passing(steps: &mut Vec<Step>, entry: Option<PendingEntry>) -> Result<(), AllocError>
-    ensures { OnOk result (steps.new.items ≡ steps.old.items ++ cons_option (option_map passing entry) []) }
-{
-    if let Some(entry) = entry {
-        steps.push(passing(entry))?;
-    }
-    Ok(())
-}
-
-/// The steps by which the entries at these places leave the pending list, one after another.
-fn passing_at(
+/// Appends which writes are missing in an image of the state to which these steps of a program lead, and why each may be; or that it
+/// is no image of it.
+pub(crate) fn push_why(
     alloc: Global,
-    pending: &[PendingEntry],
-    places: &[usize],
-) -> Result<Vec<Step>, AllocError>
-    ensures { IfOk result (λ steps. steps.items ≡ passing_at pending.now places.now) }
+    text: &mut String,
+    lined: &LinedObject,
+    steps: &[Step],
+    image: &Image,
+) -> Result<(), AllocError>
+    ensures { OnOk result (string_bytes text.new ≡ string_bytes text.old ++ why_of lined.now steps.now image.now) }
 {
-    let mut steps = Vec::new(alloc);
-    for place in places {
-        push_passing(&mut steps, pending.get(*place).copied())?;
-    }
-    Ok(steps)
+    let missing = missing_writes(alloc, &lined.object, steps, image)?;
+    push_told(text, lined, image, &missing)
 }
 
-/// These, and then the crash.
-pub(crate) fn crash_behind(
+/// The step by which the entry at a place leaves the pending list.
+fn step_at(pending: &[PendingEntry], place: usize) -> Step
+    ensures { result ≡ step_for (slice_index_or pending.now place (Marker 0)) }
+{
+    match pending.get(place) {
+        Some(PendingEntry::Write(word, _)) => Step::Persist(word.line().number() as u32),
+        Some(PendingEntry::Marker(_)) | None => Step::Settle,
+    }
+}
+
+/// The steps by which the entries at these places leave the pending list, one after another, and then the crash.
+pub(crate) fn fall_steps(
     alloc: Global,
     view: &View<'_>,
     places: &[usize],
 ) -> Result<Vec<Step>, AllocError>
-    ensures { IfOk result (λ steps. steps.items ≡ crash_behind view.now places.now) }
+    ensures { IfOk result (λ steps. steps.items ≡ fall_at view.now.memory.pending places.now) }
 {
-    let pending = view.pending_list(alloc)?;
-    let mut steps = passing_at(alloc, &pending, places)?;
+    let Ok(pending) = view.pending_list(alloc) else {
+        return Err(AllocError);
+    };
+    let mut steps = Vec::new(alloc);
+    for place in places {
+        steps.push(step_at(&pending, *place))?;
+    }
     steps.push(Step::Crash)?;
     Ok(steps)
 }

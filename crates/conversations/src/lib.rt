@@ -4,12 +4,16 @@
 //! hears the next; what is asked of a script it answers as `debug` writes it (`laws::conversations_are_scripts`).
 //! Definitions: `specs/Asking` (what a line asks), `LineFaults` and `HelpTexts` (what is printed where it asks nothing, and what
 //! may be said), `Answered` (what is answered to it, and where that leads), `Desks` (what is kept of the lines that declared stops
-//! and watches), `Eager` (which steps `run` and `finish` make), `Reversing` (where `reverse` goes), `Printed` and `Imaged` (parts of answers), `Turning` (one turn, in its parts),
-//! `Conversing` (the whole command), `SameText` (what the law states).
+//! and watches), `Eager` (which steps `run` and `finish` make), `Reversing` (where `reverse` goes), `Checking` (what `check`
+//! asks of all runs, and what is answered), `Printed`, `Listed` and `Imaged` (parts of answers), `Crashing` (what its law
+//! states of `crash V ..`), `Turning` (one turn, in its parts),
+//! `Conversing` (the whole command), `SameText`
+//! and `Staying` (what the other laws state).
 #![tactic(auto)]
 
 mod answering;
 mod asked;
+mod checked;
 mod command;
 mod declaration;
 mod desk;
@@ -19,6 +23,7 @@ mod help;
 mod imaged;
 pub mod laws;
 mod line_fault;
+mod listed;
 mod own_words;
 mod printed;
 mod reversing;

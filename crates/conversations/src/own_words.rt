@@ -2,7 +2,7 @@
 ghost use Rattle.std.specs.Prelude.{◌≡◌, ◌≤◌, codes, drop, length};
 ghost use Rattle.std.specs.List.{prefix_len};
 ghost use Rattle.debug_scripts.specs.ReadRows.{said};
-ghost use Rattle.conversations.specs.Asking.{delete_as, finish_as, gathered, goto_as, is_word, lone_number, lone_of, make_as, named_by, number_in, pick_as, print_as, processor_and_register, register_as, row_as, row_by_name, run_as, run_up_to, stands_before_colon, step_of, step_on, undo_as, undone, until_as, worded_of};
+ghost use Rattle.conversations.specs.Asking.{delete_as, finish_as, gathered, goto_as, is_word, lone_number, lone_of, make_as, named_by, number_in, pick_as, print_as, processor_and_register, register_as, row_as, row_by_name, run_as, run_up_to, stands_before_colon, step_as, step_of, step_on, undo_as, undone, until_as, worded_of};
 
 use crate::asked::Order;
 use crate::eager::MOST_STEPS;
@@ -43,7 +43,7 @@ fn step_on(layout: &Layout, behind: &[u8]) -> Result<Step, BadRow>
     step_of(&row)
 }
 
-/// What comes after `step` orders.
+/// What comes after `step` orders, if something does.
 #[tactic(auto, unfolding(crate::specs::Asking::make_as))]
 fn make_as(layout: &Layout, behind: &[u8]) -> Result<Order, LineFault>
     ensures { result ≡ make_as layout.now behind.now }
@@ -51,6 +51,17 @@ fn make_as(layout: &Layout, behind: &[u8]) -> Result<Order, LineFault>
     match step_on(layout, behind) {
         Ok(step) => Ok(Order::Make(step)),
         Err(BadRow) => Err(LineFault::BadLine),
+    }
+}
+
+/// What `step` orders, by what comes after it.
+fn step_as(layout: &Layout, behind: &[u8]) -> Result<Order, LineFault>
+    ensures { result ≡ step_as layout.now behind.now }
+{
+    if skip_blanks(behind).is_empty() {
+        Ok(Order::Walk)
+    } else {
+        make_as(layout, behind)
     }
 }
 
@@ -274,6 +285,10 @@ pub(crate) fn lone_in(line: &[u8]) -> Option<Order>
         Some(Order::History)
     } else if is_word(line, b"reverse") {
         Some(Order::Reverse)
+    } else if is_word(line, b"list") {
+        Some(Order::List)
+    } else if is_word(line, b"ahead") {
+        Some(Order::Ahead)
     } else {
         None
     }
@@ -284,7 +299,7 @@ pub(crate) fn worded_in(layout: &Layout, first: &[u8], behind: &[u8]) -> Result<
     ensures { result ≡ worded_of layout.now (first.now, behind.now) }
 {
     if first == b"step".as_slice() {
-        make_as(layout, behind)
+        step_as(layout, behind)
     } else if first == b"run".as_slice() {
         run_as(behind)
     } else if first == b"until".as_slice() {

@@ -1,6 +1,6 @@
 //! Lines are heard and answered, one after another. The boxes that stops and watches need are made here, by the function that owns
 //! the session: what is proved of a box depends on who makes it.
-ghost use Rattle.std.specs.Prelude.{◌≡◌, [], OnOk, length, map};
+ghost use Rattle.std.specs.Prelude.{◌≡◌, [], OnOk, length, map, string_bytes};
 ghost use Rattle.images.specs.Truth.{holds_in};
 ghost use Rattle.debugger.specs.Notes.{meaning};
 ghost use Rattle.debugger.specs.Writes.{word_selection};
@@ -9,22 +9,26 @@ ghost use Rattle.debugger.specs.Values.{session_value, watch_by};
 ghost use Rattle.debug_scripts.specs.DebugReports.{HasShape};
 ghost use Rattle.talks.specs.Conversations.{Talks};
 ghost use Rattle.conversations.specs.Asking.{as_asked};
+ghost use Rattle.conversations.specs.Checking.{ahead_found, found_text, nothing_found};
 ghost use Rattle.conversations.specs.Answered.{answered, armed_at, first_place, partner, place_by, watched_at, KeepsShape};
-ghost use Rattle.conversations.specs.Turning.{Asks, IsRead, Replies, TellsMore, ended, is_more, may_go_on};
+ghost use Rattle.conversations.specs.Turning.{Asks, IsRead, Replies, RepliesFound, TellsMore, ended, is_more, may_go_on};
 
 use crate::answering::{answer, arm, attach};
 use crate::asked::{Asked, Order, asked_in};
+use crate::checked::{found_of, load, push_found};
 use crate::desk::Desk;
 use crate::heard::Heard;
 use crate::line_fault::LineFault;
 use crate::own_words::is_quit;
 use commands::MAX_INPUT;
 use debugger::{Attached, Session, Stop, Watcher, WordWatch};
-use images::holds;
+use explore::{ExploreFault, Verdict};
+use images::{Cond, holds};
 use lines_layout::{Layout, WordId};
+use litmus_text::LinedObject;
 use machine::Machine;
 use outcomes::OrNoMemory;
-use std::alloc::Global;
+use std::alloc::{AllocError, Global};
 use talks::{Line, TalkFault, Terminal, hear_line, is_nothing, say};
 
 /// Whether there may be more after a line.
@@ -51,6 +55,7 @@ fn read(alloc: Global, layout: &Layout, line: Line) -> Result<Heard, TalkFault>
             }
         },
         Ok(Asked::Watch(order)) => Ok(Heard::Watch(line, order)),
+        Ok(Asked::Check(cond)) => Ok(Heard::Check(line, cond)),
         Ok(Asked::Order(order)) => Ok(Heard::Other(line, Ok(order))),
         Err(OrNoMemory::Fault(fault)) => Ok(Heard::Other(line, Err(fault))),
         Err(OrNoMemory::NoMemory) => {
@@ -67,12 +72,12 @@ fn read(alloc: Global, layout: &Layout, line: Line) -> Result<Heard, TalkFault>
 /// As of [`talk`].
 fn ask<T: Terminal>(
     alloc: Global,
-    layout: &Layout,
+    lined: &LinedObject,
     terminal: &mut T,
     left: &mut usize,
 ) -> Result<Heard, TalkFault>
     requires { T.is_ready terminal.old }
-    ensures went { Asks layout.now (T.went terminal.old terminal.new) left.old left.new result }
+    ensures went { Asks lined.now (T.went terminal.old terminal.new) left.old left.new result }
     ensures ready { OnOk result (T.is_ready terminal.new) }
 {
     say(terminal, b"px86> ")?;
@@ -80,7 +85,7 @@ fn ask<T: Terminal>(
     if is_nothing(&line) {
         return Ok(Heard::Nothing);
     }
-    read(alloc, layout, line)
+    read(alloc, lined.object.layout(), line)
 }
 
 /// Writes the answer to a line. Whether there may be more.
@@ -166,7 +171,7 @@ fn reply_watch<T: Terminal>(
 ///
 /// [`TalkFault::NoMemory`], and then nothing is written; [`TalkFault::WriteFailed`].
 fn reply<T: Terminal>(
-    layout: &Layout,
+    lined: &LinedObject,
     terminal: &mut T,
     session: &mut Session,
     desk: &mut Desk,
@@ -174,14 +179,55 @@ fn reply<T: Terminal>(
     order: Result<Order, LineFault>,
 ) -> Result<bool, TalkFault>
     requires ready { T.is_ready terminal.old }
-    requires shape { HasShape layout.now (session_value meaning_of session.old) }
-    ensures went { Replies (T.went terminal.old terminal.new) (answered layout.now (place_by meaning_of session.old desk.old) line.bytes.items (as_asked order))
+    requires shape { HasShape lined.now.object.layout (session_value meaning_of session.old) }
+    ensures went { Replies (T.went terminal.old terminal.new) (answered lined.now (place_by meaning_of session.old desk.old) line.bytes.items (as_asked order) nothing_found)
         (place_by meaning_of session.new desk.new) (may_go_on line.is_fed line.bytes.items) result }
     ensures ready { OnOk result (T.is_ready terminal.new) }
-    ensures shape { OnOk result (HasShape layout.now (session_value meaning_of session.new)) }
+    ensures shape { OnOk result (HasShape lined.now.object.layout (session_value meaning_of session.new)) }
 {
     let mut text = String::new(desk.alloc);
-    match answer(layout, session, desk, &mut text, &line, &order) {
+    match answer(lined, session, desk, &mut text, &line, &order) {
+        Ok(()) => tell(terminal, &line, text.as_bytes()),
+        Err(_) => Err(TalkFault::NoMemory),
+    }
+}
+
+/// Appends to a text that is empty what was found of all runs, and loads the run that fails, if one was found.
+fn tell_found(
+    desk: &mut Desk,
+    text: &mut String,
+    found: &Result<Verdict, ExploreFault>,
+) -> Result<(), AllocError>
+    requires empty { string_bytes text.old ≡ [] }
+    ensures text { OnOk result (string_bytes text.new ≡ found_text found.now) }
+    ensures ahead { OnOk result (desk.new.ahead ≡ ahead_found desk.old.ahead found.now) }
+    ensures declared { OnOk result (desk.new.declared.items ≡ desk.old.declared.items) }
+{
+    push_found(text, found)?;
+    load(desk.alloc, &mut desk.ahead, found)
+}
+
+/// Explores every run from here, and answers the line that asks for it. Whether there may be more.
+///
+/// # Errors
+///
+/// [`TalkFault::NoMemory`], and then nothing is written; [`TalkFault::WriteFailed`].
+fn reply_check<T: Terminal>(
+    lined: &LinedObject,
+    terminal: &mut T,
+    session: &Session,
+    desk: &mut Desk,
+    line: Line,
+    cond: Cond,
+) -> Result<bool, TalkFault>
+    requires { T.is_ready terminal.old }
+    ensures went { RepliesFound lined.now (T.went terminal.old terminal.new) (place_by meaning_of session.now desk.old)
+        (place_by meaning_of session.now desk.new) cond (may_go_on line.is_fed line.bytes.items) result }
+    ensures ready { OnOk result (T.is_ready terminal.new) }
+{
+    let found = found_of(desk.alloc, lined, session.past.steps(), cond);
+    let mut text = String::new(desk.alloc);
+    match tell_found(desk, &mut text, &found) {
         Ok(()) => tell(terminal, &line, text.as_bytes()),
         Err(_) => Err(TalkFault::NoMemory),
     }
@@ -215,13 +261,13 @@ fn ended(turn: Result<bool, TalkFault>) -> Result<(), TalkFault>
 /// Why it broke off: what was written until then stays.
 pub(crate) fn talk<T: Terminal>(
     alloc: Global,
-    layout: &Layout,
+    lined: &LinedObject,
     machine: Machine,
     terminal: &mut T,
 ) -> Result<(), TalkFault>
     requires ready { T.is_ready terminal.old }
-    requires shape { machine.shape ≡ map length layout.now }
-    ensures { Talks (partner layout.now) (T.went terminal.old terminal.new) (first_place machine) result }
+    requires shape { machine.shape ≡ map length lined.now.object.layout }
+    ensures { Talks (partner lined.now) (T.went terminal.old terminal.new) (first_place machine) result }
 {
     let Ok(mut session) = Session::new(alloc, machine) else {
         return Err(TalkFault::NoMemory);
@@ -230,7 +276,7 @@ pub(crate) fn talk<T: Terminal>(
     let mut left = MAX_INPUT;
     let mut turn: Result<bool, TalkFault> = Ok(true);
     while is_more(&turn) {
-        turn = match ask(alloc, layout, terminal, &mut left) {
+        turn = match ask(alloc, lined, terminal, &mut left) {
             Ok(Heard::Stop(line, id, asked, cond)) => match Box::new(
                 alloc,
                 move |machine: &Machine| -> bool
@@ -257,8 +303,11 @@ pub(crate) fn talk<T: Terminal>(
                 ),
                 Err(_) => Err(TalkFault::NoMemory),
             },
+            Ok(Heard::Check(line, cond)) => {
+                reply_check(lined, terminal, &session, &mut desk, line, cond)
+            }
             Ok(Heard::Other(line, order)) => {
-                reply(layout, terminal, &mut session, &mut desk, line, order)
+                reply(lined, terminal, &mut session, &mut desk, line, order)
             }
             Ok(Heard::Nothing) => Ok(false),
             Err(fault) => Err(fault),

@@ -43,7 +43,7 @@ impl StepsAhead {
     }
 
     /// Gathers a step.
-    pub(crate) fn gather(&mut self, step: Step) -> Result<(), AllocError>
+    pub fn gather(&mut self, step: Step) -> Result<(), AllocError>
         ensures gathered { OnOk result (self.new ≡ with_gathered self.old step) }
         ensures same { OnErr result (self.new ≡ self.old) }
     {
@@ -52,7 +52,7 @@ impl StepsAhead {
     }
 
     /// All of them, in the order in which they are made.
-    pub(crate) fn all(&self) -> &[Step]
+    pub fn all(&self) -> &[Step]
         ensures { result.now ≡ all_ahead self.now }
     {
         let (_, all) = self.steps.as_slice().split_at(self.rest_at);
@@ -67,7 +67,7 @@ impl StepsAhead {
     }
 
     /// The first `count` of them are no longer to be made, and all others are the rest.
-    fn pass(&mut self, count: usize)
+    pub fn pass(&mut self, count: usize)
         requires { count ≤ length (all_ahead self.old) }
         ensures { self.new ≡ steps_ahead (drop count (all_ahead self.old)) [] }
     {

@@ -184,7 +184,8 @@ With this in the file `script`:
   px86 debug --steps script store-buffering.litmus
 
 With --interactive each line is answered before the next is read. Stops and watches may come at any time. There are also:
-  step STEP           makes this step now; those for the next go stay
+  ahead               prints the steps that wait for go or continue, as a list of steps
+  step [STEP]         makes this step now, or the first of those that are ahead; the others stay
   run [N]             makes the first step of next, again and again, up to a stop or N steps, at most 1000
   until P PLACE       makes the first step of next, again and again, up to where processor P is at PLACE, a stop or 1000 steps
   finish P            makes exec P now, again and again, up to a stop, a refusal or 1000 steps
@@ -193,9 +194,13 @@ With --interactive each line is answered before the next is read. Stops and watc
   undo [N]            goes back before the last step, or before the last N, and forgets what was noted of them
   goto N              goes back to the state after the first N steps, as undo does; it never goes forward
   reverse             goes back, as undo does, to the last state behind in which a stop's condition holds, or to the beginning
+  list                prints the program that each processor runs, with > before the place where it is
   print NAME          prints the values of a word; print P:REG the value of a register
+  images COND         lists of what a crash may leave what makes COND false
   all COND            says whether COND holds in all that a crash may leave, and if not, where it does not, as images --all does
   set V ..            prints which pending entries leave these values, one for each word, as images --set does
+  why V ..            says which writes are missing where a crash leaves these values, and why each may be, as images --set --explain-image does
+  check COND          asks COND of all that crashes may leave in all runs from here, as px86 check --all does; a run that fails is ahead then
   crash V ..          the power fails now, and leaves these values, unless a stop comes before; recovery begins
   info                prints the lines that declared the stops and watches that there are
   delete ID           takes out the stop of this id, and the watch of it, whichever there is

@@ -6,13 +6,13 @@ use Rattle.talks.specs.declared.fault.TalkFault.{TalkFault}
 use Rattle.talks.specs.declared.fault.TalkFault.TheVariants as faults
 use Rattle.talks.specs.Events.{Event, Says, WriteFailed, heard, told}
 use Rattle.talks.specs.Hearing.{Hears, IsOneLine, line_end, line_size}
-use Rattle.talks.specs.Conversations.{Answers, BreaksOff, Closes, HasHeard, Partner, Turns, asked, exchange, goes_on, is_nothing, last_line, no_memory, nothing_more, too_long, unanswered, unasked, unheard, untold}
+use Rattle.talks.specs.Conversations.{Answers, AnswersBy, BreaksOff, Closes, Exchange, HasHeard, IsMiddle, Partner, Turns, asked, exchange, goes_on, is_nothing, last_line, no_memory, nothing_more, too_long, unanswered, unasked, unheard, untold}
 
 true_of_not : (b : Bool) → not b ≡ true → b ≡ false
 true_of_not true h = sym h
 true_of_not false h = refl
 
-module _ {T P : Type 0} (Went : T → T → List Event → Type 0) (both : (a b c : T) (x y : List Event) → Went a b x → Went b c y → Went a c (x ++ y)) (partner : Partner P) where
+module _ {T P F : Type 0} (Went : T → T → List Event → Type 0) (both : (a b c : T) (x y : List Event) → Went a b x → Went b c y → Went a c (x ++ y)) (partner : Partner P F) where
   -- the prompt is not told whole
   pub turn_unasked : (a b : T) (p : P) (old : ℕ) (fault : TalkFault) → Says (Went a b) partner.prompt (Err fault) → Turns partner (Went a b) p p old old (Err fault)
   turn_unasked a b p old faults.WriteFailed (n, went) = (told (take n partner.prompt) ++ WriteFailed ∷ [], went, unasked n)
@@ -46,22 +46,28 @@ module _ {T P : Type 0} (Went : T → T → List Event → Type 0) (both : (a b 
   turn_unanswered a b p q old new is_fed line so = (asked partner is_fed line, so.went, unanswered q is_fed line so.one)
 
   -- it is answered, and there may be more, or not
-  turn_on : (a b : T) (p q : P) (old new : ℕ) (is_fed : Bool) (line : List ℕ) (more : Bool) → Went a b (exchange partner p is_fed line) → IsOneLine line
-      → new + line_size is_fed line ≡ old → q ≡ partner.next p line → goes_on partner is_fed line ≡ more → Turns partner (Went a b) p q old new (Ok more)
-  turn_on a b p q old new true line true went one taken next is = (line, (one, true_of_not (partner.is_last line) is), went, next, taken)
-  turn_on a b p q old new false line true went one taken next is = absurd (cc)
-  turn_on a b p q old new is_fed line false went one taken next is =
+  turn_on : (a b : T) (p q : P) (old new : ℕ) (is_fed : Bool) (line : List ℕ) (found : F) (more : Bool) → Went a b (exchange partner p is_fed line found) → IsOneLine line
+      → partner.MayFind p line found → new + line_size is_fed line ≡ old → q ≡ partner.next p line found → goes_on partner is_fed line ≡ more → Turns partner (Went a b) p q old new (Ok more)
+  turn_on a b p q old new true line found true went one may taken next is =
+      (record { line = line; found = found }, record { one = one; more = true_of_not (partner.is_last line) is; may = may }, went, next, taken)
+  turn_on a b p q old new false line found true went one may taken next is = absurd (cc)
+  turn_on a b p q old new is_fed line found false went one may taken next is =
       let Gone : P → Type 0 = λ (x : P). Turns partner (Went a b) p x old new (Ok false) in
-      subst Gone (sym next) (exchange partner p is_fed line, went, last_line is_fed line one is)
+      subst Gone (sym next) (exchange partner p is_fed line found, went, last_line is_fed line found one is may)
 
-  -- it is answered, or not whole
+  -- it is answered by what was found, or not whole
+  answered_by : (a b c : T) (p q : P) (old new : ℕ) (is_fed : Bool) (line : List ℕ) (found : F) (result : Result Bool TalkFault) → HasHeard partner (Went a b) old new is_fed line
+      → partner.MayFind p line found → AnswersBy partner (Went b c) p q is_fed line found result → Turns partner (Went a c) p q old new result
+  answered_by a b c p q old new is_fed line found (Ok more) so may (went, next, is) =
+      turn_on a c p q old new is_fed line found more (both a b c _ _ so.went went) so.one may so.taken next (sym is)
+  answered_by a b c p q old new is_fed line found (Err faults.WriteFailed) so may ((n, told_part), next) =
+      let Gone : P → Type 0 = λ (x : P). Turns partner (Went a c) p x old new (Err faults.WriteFailed) in
+      subst Gone (sym next) (_, both a b c _ _ so.went told_part, untold is_fed line found n so.one may)
+  answered_by a b c p q old new is_fed line found (Err faults.ReadFailed) so may never = absurd never
+  answered_by a b c p q old new is_fed line found (Err faults.TooLong) so may never = absurd never
+  answered_by a b c p q old new is_fed line found (Err faults.NoMemory) so may nothing =
+      (_, subst (λ (x : List Event). Went a c x) (append-nil _) (both a b c _ _ so.went nothing), unanswered q is_fed line so.one)
+
   pub turn_answered : (a b c : T) (p q : P) (old new : ℕ) (is_fed : Bool) (line : List ℕ) (result : Result Bool TalkFault) → HasHeard partner (Went a b) old new is_fed line
       → Answers partner (Went b c) p q is_fed line result → Turns partner (Went a c) p q old new result
-  turn_answered a b c p q old new is_fed line (Ok more) so (went, next, is) = turn_on a c p q old new is_fed line more (both a b c _ _ so.went went) so.one so.taken next (sym is)
-  turn_answered a b c p q old new is_fed line (Err faults.WriteFailed) so ((n, told_part), next) =
-      let Gone : P → Type 0 = λ (x : P). Turns partner (Went a c) p x old new (Err faults.WriteFailed) in
-      subst Gone (sym next) (_, both a b c _ _ so.went told_part, untold is_fed line n so.one)
-  turn_answered a b c p q old new is_fed line (Err faults.ReadFailed) so never = absurd never
-  turn_answered a b c p q old new is_fed line (Err faults.TooLong) so never = absurd never
-  turn_answered a b c p q old new is_fed line (Err faults.NoMemory) so nothing =
-      (_, subst (λ (x : List Event). Went a c x) (append-nil _) (both a b c _ _ so.went nothing), unanswered q is_fed line so.one)
+  turn_answered a b c p q old new is_fed line result so answered = answered_by a b c p q old new is_fed line answered.found result so answered.may answered.answers

@@ -15,10 +15,10 @@ abbrev pub invariant-loop-turn : goal.invariant-loop-turn
 invariant-loop-turn g l =
     let now = session l.session.past (map (λ t. armed t.id t.cond) l.session.stops.items) (map (λ w. watch w.id ((own-2.entry w.watcher.vtable).1.meaning_of w.watcher.value)) l.session.watchers.items) in
     record {
-      so : is_more l.turn ≡ true → GoesOn (partner l.layout) (g.T.Terminal.went l.initial.terminal l.terminal) (first_place l.fn.machine) (place now l.desk.ahead l.desk.declared.items) l.left;
-      over : is_more l.turn ≡ false → Converses (partner l.layout) (g.T.Terminal.went l.initial.terminal l.terminal) (first_place l.fn.machine) (place now l.desk.ahead l.desk.declared.items) (ended l.turn);
+      so : is_more l.turn ≡ true → GoesOn (partner l.lined) (g.T.Terminal.went l.initial.terminal l.terminal) (first_place l.fn.machine) (place now l.desk.ahead l.desk.declared.items) l.left;
+      over : is_more l.turn ≡ false → Converses (partner l.lined) (g.T.Terminal.went l.initial.terminal l.terminal) (first_place l.fn.machine) (place now l.desk.ahead l.desk.declared.items) (ended l.turn);
       ready : is_more l.turn ≡ true → g.T.Terminal.is_ready l.terminal;
-      shape : is_more l.turn ≡ true → HasShape l.layout now;
+      shape : is_more l.turn ≡ true → HasShape l.lined.object.layout now;
     }
 
 abbrev pub decreases-loop-turn : goal.decreases-loop-turn
