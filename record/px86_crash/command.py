@@ -11,7 +11,7 @@ import os
 import re
 import shlex
 import sys
-from collections.abc import Sequence
+from collections.abc import Collection, Sequence
 from dataclasses import dataclass, field, replace
 from typing import Any, NoReturn, Protocol
 
@@ -481,15 +481,17 @@ def say_all_orders(report: Report, first: First | None, orders: Orders) -> int:
     """What is said where none of the orders is bad."""
     if first is not None and first.refused is None and (orders.passed_over or orders.search.unlike):
         return say_first(report, first.report, orders)
+    said: list[str] = []
     if first is not None:
         report.facts |= first.report.facts
-        for line in first.report.lines[: None if first.refused is not None else -1]:
+        said = first.report.lines[: None if first.refused is not None else -1]
+        for line in said:
             if line != ONE_ORDER:
                 report.say(line)
     if orders.passed_over:
         report.note(other_orders=orders.counts())
         raise refused_orders(orders)
-    return say_orders(report, orders)
+    return say_orders(report, orders, said)
 
 
 def refused_orders(orders: Orders) -> Refused:
@@ -571,12 +573,11 @@ def say_unlike(report: Report, search: Search) -> None:
         report.say(unlike)
 
 
-def say_orders(report: Report, orders: Orders) -> int:
-    """All orders are accepted: these are the reports of some, the first of which is said. Of the others the notes count, and of what YES
-    speaks."""
+def say_orders(report: Report, orders: Orders, said: Collection[str]) -> int:
+    """All orders are accepted. These lines are said of the first; of the others the notes count, and of what YES speaks."""
     search, different = orders.search, len(orders.seen)
     for note in notes_of(orders.accepted):
-        if note not in report.lines:
+        if note not in said:
             report.say(note)
     say_unlike(report, search)
     report.say(f"orders of threads: {search.covered()}; {plural(different, 'different recording')}")

@@ -2,6 +2,8 @@
 
 from __future__ import annotations
 
+import contextlib
+import io
 import os
 import sys
 import unittest
@@ -13,13 +15,23 @@ from unittest import mock
 sys.dont_write_bytecode = True
 sys.path.insert(0, os.path.dirname(os.path.dirname(os.path.abspath(__file__))))
 
-from px86_crash.command import BOUND_BY_DEFAULT, ONE_ORDER, Run, answer_by_default, answer_orders, key_of
+from px86_crash.command import (
+    BOUND_BY_DEFAULT,
+    ONE_ORDER,
+    First,
+    Orders,
+    Run,
+    answer_by_default,
+    answer_orders,
+    key_of,
+    say_all_orders,
+)
 from px86_crash.explore import Bound, Cut
 from px86_crash.faults import Failed, Refused
 from px86_crash.promises import Promises
 from px86_crash.recording import Kind, Operation, hash_of
 from px86_crash.report import LATER, Report
-from px86_crash.schedules import ORDERS_BY_DEFAULT, Turn
+from px86_crash.schedules import ORDERS_BY_DEFAULT, Search, Turn
 from px86_crash.stepper import NotPlayed, NotRecorded, is_input_there_again, place_of_input
 from px86_crash.threads import TooManyWays
 
@@ -200,6 +212,18 @@ class DefaultTest(unittest.TestCase):
             self.assertTrue(lines[2].endswith(f"; {1 + ORDERS_BY_DEFAULT} different recordings"), lines)
             yes = f"YES: every memory that a crash may leave of these orders is accepted (several threads: {scope})"
             self.assertEqual(lines[3:], [yes])
+
+    def test_each_note_is_said_once(self) -> None:
+        """On standard output too, where what was said is not kept."""
+        first, other = Report(is_quiet=True), Report(is_quiet=True)
+        accept(first, "note: of each (2 times)")
+        accept(other, "note: of each (3 times)")
+        other.say("note: of one alone")
+        orders = Orders(Search(2, 1), {b"1", b"2"}, [first, other], 2)
+        with contextlib.redirect_stdout(io.StringIO()) as said:
+            say_all_orders(Report(), First(first), orders)
+        lines = [line for line in said.getvalue().splitlines() if line.startswith("note: ")]
+        self.assertEqual(lines, ["note: of each (2 times)", "note: of one alone"])
 
     def test_an_input_that_is_read_off(self) -> None:
         self.is_input_there_again = False
