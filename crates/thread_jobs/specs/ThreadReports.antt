@@ -1,5 +1,5 @@
 -- The reports of the commands that work with threads, and what these commands may answer.
-use Rattle.std.specs.Prelude.{ℕ, Bool, true, false, Option, Some, None, option_map, Result, Ok, Err, List, [], ◌∷◌}
+use Rattle.std.specs.Prelude.{◌≡◌, ℕ, Bool, true, false, Option, Some, None, option_map, Result, Ok, Err, List, [], ◌∷◌}
 use Rattle.outcomes.specs.declared.or_no_memory.OrNoMemory.{OrNoMemory}
 use Rattle.outcomes.specs.declared.or_no_memory.OrNoMemory.TheVariants as errors
 use Rattle.workers.specs.Limits.{MayShare}
