@@ -97,12 +97,14 @@ pub(crate) fn push_broken(
 ) -> Result<(), AllocError>
     ensures { OnOk result (string_bytes text.new ≡ string_bytes text.old ++ broken_of view.now cond.now) }
 {
-    let Some(countable) = count(view) else {
-        return push_candidates(text, Count::More);
-    };
-    let mut images = list(alloc, &countable)?;
-    keep_broken(&mut images, cond, view);
-    push_images(text, &images)
+    match count(view) {
+        Some(countable) => {
+            let mut images = list(alloc, &countable)?;
+            keep_broken(&mut images, cond, view);
+            push_images(text, &images)
+        }
+        None => push_candidates(text, Count::More),
+    }
 }
 
 /// Appends which pending entries leave an image.
