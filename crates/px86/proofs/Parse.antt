@@ -1,9 +1,9 @@
 -- The command line is one of which `clap` tells the faults; what a misread one is declined for; what a task that was
 -- asked for may have.
-use Rattle.std.proofs.Common.{refl, ◌≡◌, ℕ, inl, inr, List, [], ◌∷◌, true, false, ◌∙◌, ap, subst, Bool, Option, None, Some}
+use Rattle.std.proofs.Common.{refl, ◌≡◌, ℕ, inl, inr, List, [], ◌∷◌, true, false, ◌∙◌, ap, subst, Bool, Option, None, Some, codes}
 use Rattle.std.specs.Prelude.{◌⊎◌, ◌||◌, Result, Ok, Err, IfErr, IsErrAnd}
 use Rattle.std.specs.List.{list_any}
-use Rattle.clap.specs.Words.{is_simple_and_free, fault_of, kind_of, subcommand_of, HasKind, IsAmong, Kinds, Row, Text}
+use Rattle.clap.specs.Words.{is_simple_and_free, fault_of, first_of, kind_of, subcommand_of, HasKind, IsAmong, Kinds, Row, Text}
 use Rattle.clap.specs.declared.error.Error.{Error}
 use Rattle.clap.specs.declared.error.kind.ErrorKind.{ErrorKind}
 use Rattle.clap.specs.declared.error.kind.ErrorKind.TheVariants.{InvalidValue, UnknownArgument, InvalidSubcommand, NoEquals, ValueValidation, TooManyValues, TooFewValues, WrongNumberOfValues, ArgumentConflict, MissingRequiredArgument, MissingSubcommand, DisplayHelp, DisplayHelpOnMissingArgumentOrSubcommand, DisplayVersion, Io, Format, OutOfMemory}
