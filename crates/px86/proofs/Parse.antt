@@ -1,9 +1,9 @@
 -- The command line is one of which `clap` tells the faults; what a misread one is declined for; what a task that was
 -- asked for may have.
-use Rattle.std.proofs.Common.{refl, ◌≡◌, ℕ, inl, inr, List, [], ◌∷◌, true, false, ◌∙◌, ap, subst, Bool, Option, None, Some}
+use Rattle.std.proofs.Common.{refl, ◌≡◌, ℕ, inl, inr, List, [], ◌∷◌, true, false, ◌∙◌, ap, subst, Bool, Option, None, Some, codes}
 use Rattle.std.specs.Prelude.{◌⊎◌, ◌||◌, Result, Ok, Err, IfErr, IsErrAnd}
 use Rattle.std.specs.List.{list_any}
-use Rattle.clap.specs.Words.{is_simple_and_free, fault_of, kind_of, subcommand_of, HasKind, IsAmong, Kinds, Row, Text}
+use Rattle.clap.specs.Words.{is_simple_and_free, fault_of, first_of, kind_of, subcommand_of, HasKind, IsAmong, Kinds, Row, Text}
 use Rattle.clap.specs.declared.error.Error.{Error}
 use Rattle.clap.specs.declared.error.kind.ErrorKind.{ErrorKind}
 use Rattle.clap.specs.declared.error.kind.ErrorKind.TheVariants.{InvalidValue, UnknownArgument, InvalidSubcommand, NoEquals, ValueValidation, TooManyValues, TooFewValues, WrongNumberOfValues, ArgumentConflict, MissingRequiredArgument, MissingSubcommand, DisplayHelp, DisplayHelpOnMissingArgumentOrSubcommand, DisplayVersion, Io, Format, OutOfMemory}
@@ -12,11 +12,12 @@ use Rattle.px86.specs.declared.request.Declined.{Declined}
 use Rattle.px86.specs.declared.request.Declined.TheVariants.{Usage, NoMemory}
 use Rattle.px86.specs.declared.request.Input.{Input}
 use Rattle.commands.specs.declared.jobs.ScheduleJob.{ScheduleJob}
+use Rattle.commands.specs.declared.jobs.HuntOptions.{HuntOptions}
 use Rattle.commands.specs.declared.jobs.ScheduleJob.TheVariants as schedules
 use Rattle.commands.specs.declared.jobs.Task.{Task}
 use Rattle.commands.specs.declared.jobs.Task.TheVariants.{Schedules}
 use Rattle.px86.specs.Commands.{command_line, command_named}
-use Rattle.px86.specs.CommandLines.{asks_text, declined_by, declined_of, Asks, AsksFor, AsksForThreads, AsksIn, IsRefusedFor, IsTallyJob, IsTaskOf}
+use Rattle.px86.specs.CommandLines.{asks_text, declined_by, declined_of, Asks, AsksFor, AsksForThreads, AsksIn, IsRefusedFor, IsTallyJob, IsTallyOf, IsTaskOf}
 use Rattle.px86.specs.declared.command.Command.{Command}
 use Rattle.px86.specs.declared.command.Command.TheVariants.{Asm, Dis, Run, Trace, Next, Law, Debug, Images, Replay, Check, Outcomes, Tally, Hunt, Fences, Mend, Live}
 use Rattle.px86.specs.Starts.{Declines}
@@ -81,11 +82,22 @@ misread_exit words declined out status silent (inl (inr found)) declines = elim 
 ]
 misread_exit words declined out status silent (inr none) declines = inl (subst (λ (d : Declined). Declines d out status) none.0 declines).1
 
+-- a tally is no hunt
+no_hunt : (all ends recovered : Option Text) (options : HuntOptions) → IsTallyOf all ends recovered (schedules.Hunt options) → ⊥
+no_hunt None None None options is = is
+no_hunt None None (Some recovered) options is = is
+no_hunt None (Some ends) None options is = is
+no_hunt None (Some ends) (Some recovered) options is = is
+no_hunt (Some all) None None options is = is
+no_hunt (Some all) None (Some recovered) options is = is
+no_hunt (Some all) (Some ends) recovered options is = is
+
 -- a tally works alone
 run_alone : (rows : List Row) (job : ScheduleJob) → IsTallyJob rows job → AsksForThreads (Schedules job)
 run_alone rows (schedules.Tally options) is = tt
 run_alone rows (schedules.Losses options) is = tt
-run_alone rows (schedules.Hunt options) is = absurd is
+run_alone rows (schedules.Ends options) is = tt
+run_alone rows (schedules.Hunt options) is = absurd (no_hunt (first_of (codes "all") rows) (first_of (codes "ends") rows) (first_of (codes "recovered") rows) options is.0)
 
 -- what a parse of a command found asks for as many threads as there may be
 threads_of : (command : Command) (rows : List Row) (task : Task) → IsTaskOf command rows task → AsksForThreads task
