@@ -80,9 +80,11 @@ row_of Check = row (codes "check") reads.Steps
     ∷ flag (codes "explain-image") ∷ flag (codes "progress") ∷ flag (codes "json") ∷ [])
 row_of Outcomes = row (codes "outcomes") reads.Steps
     (flag (codes "recovered") ∷ value (codes "states") ∷ flag (codes "progress") ∷ flag (codes "json") ∷ [])
-row_of Tally = row (codes "tally") reads.Steps (schedule_options ++ value (codes "all") ∷ flag (codes "progress") ∷ flag (codes "json") ∷ [])
+row_of Tally = row (codes "tally") reads.Steps
+    (schedule_options ++ value (codes "all") ∷ value (codes "ends") ∷ value (codes "recovered") ∷ flag (codes "progress") ∷ flag (codes "json") ∷ [])
 row_of Hunt = row (codes "hunt") reads.Steps
-    (schedule_options ++ value (codes "cond") ∷ value (codes "all") ∷ flag (codes "lazy") ∷ value (codes "workers")
+    (schedule_options ++ value (codes "cond") ∷ value (codes "all") ∷ value (codes "ends") ∷ value (codes "recovered")
+    ∷ flag (codes "lazy") ∷ value (codes "workers")
     ∷ flag (codes "show") ∷ flag (codes "names") ∷ flag (codes "as-steps")
     ∷ flag (codes "explain-image") ∷ flag (codes "progress") ∷ flag (codes "json") ∷ [])
 row_of Fences = row (codes "fences") reads.Nothing
