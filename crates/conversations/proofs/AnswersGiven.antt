@@ -1,5 +1,5 @@
 -- Answers, as they are made.
-use Rattle.std.proofs.Common.{◌≡◌, ℕ, ◌<◌, ◌-◌, List, [], ◌∷◌, ◌++◌, length, take, drop, codes, Bool, true, false, Option, Some, None, Result, Ok, Err, refl, sym, ◌∙◌, ap, subst, arith, inl, inr}
+use Rattle.std.proofs.Common.{◌≡◌, ℕ, ◌<◌, ◌-◌, List, [], ◌∷◌, ◌++◌, length, take, drop, Bool, true, false, Option, Some, None, Result, Ok, Err, refl, sym, ◌∙◌, ap, subst, arith, inl, inr}
 use Rattle.std.proofs.lemmas.Bool.{cases_Bool, lt-ltb}
 use Rattle.std.proofs.lemmas.Bool.Decides.{nat_tests}
 use Rattle.std.specs.Prelude.{IfErr, OnErr, OnOk, nat_lt, ◌↔◌}
@@ -13,7 +13,6 @@ use Rattle.debugger.specs.declared.halt.Halt.TheVariants as halts
 use Rattle.debugger.specs.Sessions.{SessionValue, after, unmade}
 use Rattle.debugger.specs.declared.fault.SessionFault.{SessionFault}
 use Rattle.debugger.specs.declared.fault.SessionFault.TheVariants.{TooFar}
-use Rattle.commands.specs.StateTexts.{end_of_line}
 use Rattle.debug_scripts.specs.Ahead.{Ahead, all_ahead, steps_ahead}
 use Rattle.debug_scripts.specs.SessionTexts.{IsMade, back_text, fault_line, halt_line}
 use Rattle.talks.specs.declared.fault.TalkFault.{TalkFault}

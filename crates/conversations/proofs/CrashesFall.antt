@@ -1,8 +1,7 @@
 -- What is answered to `crash V ..` leads to a state that a crash leaves.
-use Rattle.std.proofs.Common.{◌≡◌, ℕ, ◌+◌, ◌<◌, List, [], ◌∷◌, length, take, Option, Some, None, refl, sym, ◌∙◌, ap, subst}
+use Rattle.std.proofs.Common.{◌≡◌, ℕ, ◌+◌, ◌<◌, List, [], ◌∷◌, length, take, Option, Some, None, refl, sym, ap, subst}
 use Rattle.std.specs.Option.{option_map_or}
 use Rattle.machine.specs.Limits.{max_turns}
-use Rattle.machine.specs.State.{State}
 use Rattle.machine.specs.Steps.{run_of}
 use Rattle.machine.specs.declared.refusal.Refusal.{Refusal}
 use Rattle.machine.specs.declared.step.Step.{Step}

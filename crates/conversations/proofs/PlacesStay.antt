@@ -30,7 +30,7 @@ use Rattle.conversations.specs.declared.asked.Order.TheVariants as orders
 use Rattle.conversations.specs.declared.line_fault.LineFault.{LineFault}
 use Rattle.conversations.specs.Asking.{asked_of}
 use Rattle.conversations.specs.Checking.{Found}
-use Rattle.conversations.specs.Answered.{Answer, Place, answered, crashed_at, deleted_at, gone_to, made_at, ordered, picked_at, unarmed, unmade_at, unwatched, walked_by}
+use Rattle.conversations.specs.Answered.{Answer, Place, answered, crashed_at, deleted_at, gone_to, ordered, picked_at, unarmed, unmade_at, walked_by}
 use Rattle.conversations.specs.Eager.{is_met, most_steps, runs_of, steps_to, steps_until}
 use Rattle.conversations.specs.declared.eager.Aim.TheVariants.{Nowhere}
 use Rattle.conversations.specs.Reversing.{is_stopped, reversed}

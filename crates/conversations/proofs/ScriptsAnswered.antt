@@ -6,7 +6,6 @@ use Rattle.std.specs.List.{find, flat_map, list_any}
 use Rattle.lines_layout.specs.Layouts.{NamedLines}
 use Rattle.lines_layout.specs.Names.{Text}
 use Rattle.litmus_text.specs.declared.text_lines.LinedObject.{LinedObject}
-use Rattle.text_tokens.specs.Text.{lines_of}
 use Rattle.machine.specs.State.{State}
 use Rattle.debugger.specs.Stops.{Armed}
 use Rattle.debugger.specs.Sessions as sessions
