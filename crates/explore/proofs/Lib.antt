@@ -78,3 +78,5 @@ pub mod SetsAreWritten
 pub mod SpeakingFor
 pub mod TrailsGoOn
 pub mod LinesWithoutWrites
+pub mod HeldThrough
+pub mod MarksHold

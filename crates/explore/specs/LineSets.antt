@@ -1,5 +1,5 @@
 -- What each line may still leave, in place of the order of what is pending. Laws speak of it; no rule.
-use Rattle.std.specs.Prelude.{◌≡◌, ℕ, ◌*◌, ◌%◌, Bool, false, List, [], ◌∷◌, ◌++◌, ◌==◌, filter, length, map, nat_eq, not, slice_index, slice_set, if◌then◌else◌}
+use Rattle.std.specs.Prelude.{◌≡◌, ℕ, zero, suc, ◌*◌, ◌%◌, Bool, false, true, List, [], ◌∷◌, ◌++◌, ◌==◌, filter, length, map, nat_eq, not, slice_index, slice_set, if◌then◌else◌}
 use Rattle.std.specs.List.{list_any, range_with_len}
 use Rattle.std.specs.Cmp.Lexicographic.{pointwise}
 use Rattle.lines_layout.specs.Lines.{line_of, line_words}
@@ -65,3 +65,17 @@ held_by m line count = held_from line (record { values = map (slice_index m.pers
 -- the values that a line had and has no more: ascending, each once
 abbrev pub others : Held → List (List ℕ)
 others held = filter (λ values. not (pointwise nat_eq values held.values)) (in_order held.passed)
+
+-- ---- by the line's own writes
+
+-- the same once a write of the line has come, at a place among its words: the values before it are noted, unless it is settled, which means that a marker of the line is behind it
+abbrev pub held_with : Bool → ℕ → ℕ → Held → Held
+held_with settled place value held =
+    record { values = slice_set held.values place value; passed = if settled then held.passed else held.passed ++ held.values ∷ [] }
+
+-- once writes of the line have come, one after another, of which so many first ones are settled
+abbrev pub held_through : ℕ → Held → List PendingEntry → Held
+held_through settled held [] = held
+held_through zero held (Write word value ∷ later) = held_through zero (held_with false (word % line_words) value held) later
+held_through (suc settled) held (Write word value ∷ later) = held_through settled (held_with true (word % line_words) value held) later
+held_through settled held (Marker other ∷ later) = held_through settled held later

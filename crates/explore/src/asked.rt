@@ -40,18 +40,18 @@ fn line_at(number: usize) -> LineId
     LineId::new(number).unwrap()
 }
 
-/// How many writes of a line must be persisted where the first k markers went.
-fn low(pending: &Pending, line: LineId, k: usize) -> usize
+/// How many writes of a line must be persisted where the first k markers went: those before the last of these that is the line's.
+pub(crate) fn low(pending: &Pending, line: LineId, k: usize) -> usize
     requires { k ≤ markers pending.now.memory.pending }
     ensures { result ≡ low line k pending.now.memory.pending }
 {
-    let mut low = 0;
     for j in 0..k {
-        if pending.marker(j) == line {
-            low = pending.before(line, j);
+        let last = k - 1 - j;
+        if pending.marker(last) == line {
+            return pending.before(line, last);
         }
     }
-    low
+    0
 }
 
 /// The value of a word where so many first writes of its line are persisted.

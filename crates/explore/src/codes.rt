@@ -34,6 +34,19 @@ fn push_eight(bytes: &mut Vec<u8>, number: u64) -> Result<(), AllocError>
 pub(crate) fn push_number(bytes: &mut Vec<u8>, number: u64) -> Result<(), AllocError>
     ensures { OnOk result (bytes.new.items ≡ bytes.old.items ++ code_of number) }
 {
+    if number < 254 && bytes.len() < bytes.capacity() {
+        // Mostly it is so, and that is quick.
+        bytes.push_reserved(number as u8);
+        return Ok(());
+    }
+    push_slowly(bytes, number)
+}
+
+/// Appends the bytes of a number, for which there may be no room yet.
+#[tactic(auto, unfolding(crate::specs::Codes::code_of))]
+fn push_slowly(bytes: &mut Vec<u8>, number: u64) -> Result<(), AllocError>
+    ensures { OnOk result (bytes.new.items ≡ bytes.old.items ++ code_of number) }
+{
     if number < 254 {
         bytes.push(number as u8)?;
         return Ok(());

@@ -6,7 +6,7 @@ ghost use Rattle.explore.specs.Found.{HasNode, fallen_from, falls_from};
 ghost use Rattle.explore.specs.Keys.{fallen_key};
 
 use crate::found::Found;
-use crate::key::fallen_key;
+use crate::key::{Key, make_fallen};
 use crate::node::Node;
 use images::{Image, closed_set};
 use machine::{Step, View};
@@ -39,22 +39,28 @@ fn fall_steps(alloc: Global, view: &View<'_>, places: &[usize]) -> Result<Vec<St
 }
 
 /// Crashes a node so that it leaves an image, by a set of the fewest entries, and finds its path with these steps. Where the
-/// state behind the crash, which its key tells, was found before, no set is looked for.
-fn fall(alloc: Global, node: &Node, image: &Image, found: &mut Found) -> Result<(), AllocError>
+/// state behind the crash, which its key tells, was found before, no set is looked for. Another key is room for that one.
+fn fall(
+    alloc: Global,
+    node: &Node,
+    image: &Image,
+    key: &mut Key,
+    found: &mut Found,
+) -> Result<(), AllocError>
     requires there { HasNode found.old node.now }
     ensures fallen { OnOk result (found.new ≡ fallen_from node.now image.now found.old) }
     ensures there { OnOk result (HasNode found.new node.now) }
 {
     let view = node.state.view();
-    let key = fallen_key(alloc, found.sets(), &view, image)?;
-    if found.has(&key) {
+    make_fallen(found.sets(), &view, image, key)?;
+    if found.has(key) {
         return Ok(());
     }
     let Some(places) = closed_set(alloc, &view, image)? else {
         return Ok(());
     };
     let steps = fall_steps(alloc, &view, &places)?;
-    found.add_behind(alloc, key, node, &steps)
+    found.add_behind(alloc, key.copy(alloc)?, node, &steps)
 }
 
 /// Crashes a node with each of some images.
@@ -67,8 +73,9 @@ pub(crate) fn fall_all(
     requires { HasNode found.old node.now }
     ensures { OnOk result (found.new ≡ falls_from node.now images.now found.old) }
 {
+    let mut key = Key::empty(alloc);
     for image in images {
-        fall(alloc, node, image, found)?;
+        fall(alloc, node, image, &mut key, found)?;
     }
     Ok(())
 }

@@ -75,6 +75,13 @@ impl Key {
         })
     }
 
+    /// A key of no bytes, with no room.
+    pub(crate) fn empty(alloc: Global) -> Key {
+        Key {
+            bytes: Vec::new(alloc),
+        }
+    }
+
     /// The same key again, with no room to spare.
     pub(crate) fn copy(&self, alloc: Global) -> Result<Key, AllocError>
         ensures { IfOk result (λ key. key ≡ self.now) }
@@ -370,17 +377,18 @@ fn push_fallen(
     }
 }
 
-/// The key of the state that a crash leaves, where it leaves this image.
-pub(crate) fn fallen_key(
-    alloc: Global,
+/// Makes a key that of the state that a crash leaves, where it leaves this image. The room that it had is used.
+pub(crate) fn make_fallen(
     sets: bool,
     view: &View<'_>,
     image: &Image,
-) -> Result<Key, AllocError>
-    ensures { IfOk result (λ key. key ≡ fallen_key sets view.now image.now) }
+    key: &mut Key,
+) -> Result<(), AllocError>
+    ensures { OnOk result (key.new ≡ fallen_key sets view.now image.now) }
 {
-    let mut bytes = Vec::with_capacity(alloc, ROOM)?;
-    push_restarted(&mut bytes, view)?;
-    push_fallen(&mut bytes, sets, view, image)?;
-    Key::of(alloc, &bytes)
+    let bytes = &mut key.bytes;
+    bytes.clear();
+    push_restarted(bytes, view)?;
+    push_fallen(bytes, sets, view, image)?;
+    Ok(())
 }

@@ -1,14 +1,16 @@
 //! What each line may still leave: in place of the order of what is pending, the values that it had since its last marker.
-ghost use Rattle.std.specs.Prelude.{◌≡◌, ◌*◌, ◌+◌, ◌++◌, ◌≤◌, [], ℕ, IfOk, List, OnOk, filter, map, nat_eq, not, slice_index, slice_set};
+ghost use Rattle.std.specs.Prelude.{◌≡◌, ◌*◌, ◌+◌, ◌++◌, ◌<◌, ◌≤◌, [], ◌∷◌, ℕ, IfOk, List, OnOk, filter, map, nat_eq, not, slice_index, slice_set};
 ghost use Rattle.std.specs.List.{range_with_len};
 ghost use Rattle.std.specs.Cmp.Lexicographic.{pointwise};
 ghost use Rattle.lines_layout.specs.Lines.{line_words, max_words};
-ghost use Rattle.explore.specs.LineSets.{Held, held_after, held_by, held_from, others};
+ghost use Rattle.persist_buffer.specs.Listings.{writes_on};
+ghost use Rattle.explore.specs.LineSets.{Held, held_by, held_through, held_with, others};
 
+use crate::asked::low;
 use crate::key::push_values;
 use crate::numbers::{Numbers, sort};
 use lines_layout::{LINE_WORDS, LineId};
-use persist_buffer::{Pending, PendingEntry};
+use persist_buffer::Pending;
 use std::alloc::{AllocError, Global};
 use std::marker::Model;
 
@@ -37,37 +39,36 @@ fn set(values: &mut [u64], place: usize, value: u64)
 }
 
 impl Held {
-    /// The values once an entry has come.
-    fn pass(&mut self, alloc: Global, line: LineId, entry: &PendingEntry) -> Result<(), AllocError>
-        ensures { OnOk result (self.new ≡ held_after line self.old entry.now) }
+    /// The values once a write of the line has come: those before it are noted, unless a marker of the line is behind it.
+    fn pass(
+        &mut self,
+        alloc: Global,
+        settled: bool,
+        place: usize,
+        value: u64,
+    ) -> Result<(), AllocError>
+        ensures { OnOk result (self.new ≡ held_with settled place value self.old) }
     {
-        match entry {
-            PendingEntry::Write(word, value) => {
-                if word.line() == line {
-                    self.passed.push(Numbers::copied(alloc, &self.values)?)?;
-                    set(&mut self.values, word.number() % LINE_WORDS, *value);
-                }
-            }
-            PendingEntry::Marker(other) => {
-                if *other == line {
-                    self.passed.clear();
-                }
-            }
+        if !settled {
+            self.passed.push(Numbers::copied(alloc, &self.values)?)?;
         }
+        set(&mut self.values, place, value);
         Ok(())
     }
 
-    /// The values once entries have come, one after another.
+    /// The values once all pending writes of a line have come, of which so many are before its last marker.
     fn pass_all(
         &mut self,
         alloc: Global,
+        pending: &Pending,
         line: LineId,
-        entries: &[PendingEntry],
+        settled: usize,
     ) -> Result<(), AllocError>
-        ensures { OnOk result (self.new ≡ held_from line self.old entries.now) }
+        ensures { OnOk result (self.new ≡ held_through settled self.old (writes_on line pending.now.memory.pending)) }
     {
-        for entry in entries {
-            self.pass(alloc, line, entry)?;
+        for i in 0..pending.writes(line) {
+            let (word, value) = pending.write(line, i);
+            self.pass(alloc, i < settled, word.number() % LINE_WORDS, value)?;
         }
         Ok(())
     }
@@ -80,26 +81,27 @@ fn drop_like(lists: &mut Vec<Numbers>, values: &[u64])
     lists.retain(|list| list.values() != values);
 }
 
-/// The values that a line of so many words had since its last marker, and has no more: ascending, each once. The list is that of
-/// what is pending.
+/// The values that a line of so many words had since its last marker, and has no more: ascending, each once.
 pub(crate) fn others(
     alloc: Global,
     pending: &Pending,
-    list: &[PendingEntry],
     line: LineId,
     count: usize,
 ) -> Result<Vec<Numbers>, AllocError>
-    requires list { list.now ≡ pending.now.memory.pending }
-    requires words { line_words * line + count ≤ max_words }
+    requires { line_words * line + count ≤ max_words }
     ensures { IfOk result (λ found. found.items ≡ others (held_by pending.now.memory line count)) }
 {
+    let settled = low(pending, line, pending.markers());
+    if settled == pending.writes(line) {
+        return Ok(Vec::new(alloc));
+    }
     let mut values = Vec::with_capacity(alloc, LINE_WORDS)?;
     push_values(&mut values, LINE_WORDS * line.number(), count, pending)?;
     let mut held = Held {
         values,
         passed: Vec::new(alloc),
     };
-    held.pass_all(alloc, line, list)?;
+    held.pass_all(alloc, pending, line, settled)?;
     let Held { values, mut passed } = held;
     sort(&mut passed);
     drop_like(&mut passed, &values);

@@ -1,5 +1,5 @@
 //! Lists of numbers, and sets of them.
-ghost use Rattle.std.specs.Prelude.{◌≡◌, ◌↔◌, ◌++◌, [], ℕ, Contains, IfOk, IsTrue, List, OnOk, nat_eq, refl};
+ghost use Rattle.std.specs.Prelude.{◌≡◌, ◌<◌, true, ◌↔◌, ◌++◌, [], ℕ, Contains, IfOk, IsTrue, List, OnOk, nat_eq, refl};
 ghost use Rattle.std.specs.Ordering.{nat_cmp, as_partial_cmp};
 ghost use Rattle.std.specs.Cmp.Lexicographic.{nat_list_eq_equiv, pointwise, slice_cmp};
 ghost use Rattle.std.specs.Cmp.{partial_equiv_from_equiv, partial_order_from_own_ties};
@@ -9,7 +9,7 @@ ghost use Rattle.std.proofs.Common.{rules};
 ghost use Rattle.pending_images.specs.Listings.{in_order};
 ghost use Rattle.explore.specs.Ran.{flag_number, site};
 ghost use Rattle.explore.specs.SameKeys.{same_hash_input};
-ghost use Rattle.explore.specs.Sets.{included, list_at};
+ghost use Rattle.explore.specs.Sets.{HasNewMarks, IsMarked, included, list_at, mark_at};
 
 use indexmap::IndexSet;
 use std::alloc::{AllocError, Global};
@@ -132,18 +132,67 @@ impl Hash for Numbers {
     }
 }
 
+/// Of so many processors instructions have marks, as far as this place.
+const MARKED_PROCESSORS: usize = 16;
+
+const MARKED_PLACES: usize = 4096;
+
 /// A set of lists of numbers, in the order in which they came.
 #[derive(Drop)]
 pub(crate) struct NumberSet {
     lists: IndexSet<Numbers>,
     /// Room for a list that is looked for.
     room: Numbers,
+    /// An instruction that has a mark is there: so most are found at once.
+    marks: Vec<bool>,
 }
 
 impl Model for NumberSet {
+    ghost use Rattle.std.specs.Prelude.{List, ℕ};
+    ghost use Rattle.explore.specs.Sets.{AreMarks};
+
     ghost Value = { List (List ℕ) };
 
     ghost view = { λ s. s.lists.keys };
+
+    ghost invariant = { λ s. AreMarks s.marks.items s.lists.keys };
+}
+
+/// Where the mark of an instruction is.
+fn mark_at(p: usize, recovery: bool, place: usize) -> usize
+    requires p { p < 16 }
+    requires place { place < 4096 }
+    ensures { result ≡ mark_at p recovery place }
+{
+    (place * MARKED_PROCESSORS + p) * 2 + flag(recovery) as usize
+}
+
+/// Whether an instruction has a mark.
+fn is_marked(marks: &[bool], p: usize, recovery: bool, place: usize) -> bool
+    ensures { result ≡ true → IsMarked marks.now p recovery place }
+{
+    if p >= MARKED_PROCESSORS || place >= MARKED_PLACES {
+        return false;
+    }
+    match marks.get(mark_at(p, recovery, place)) {
+        Some(mark) => *mark,
+        None => false,
+    }
+}
+
+/// Marks an instruction, where it may have a mark.
+fn mark(marks: &mut Vec<bool>, p: usize, recovery: bool, place: usize) -> Result<(), AllocError>
+    ensures { HasNewMarks marks.old.items marks.new.items p recovery place }
+{
+    if p >= MARKED_PROCESSORS || place >= MARKED_PLACES {
+        return Ok(());
+    }
+    let at = mark_at(p, recovery, place);
+    if at >= marks.len() {
+        marks.resize(at + 1, false)?;
+    }
+    marks[at] = true;
+    Ok(())
 }
 
 impl NumberSet {
@@ -154,6 +203,7 @@ impl NumberSet {
         NumberSet {
             lists: IndexSet::new(alloc),
             room: Numbers::new(Vec::new(alloc)),
+            marks: Vec::new(alloc),
         }
     }
 
@@ -175,13 +225,15 @@ impl NumberSet {
     ) -> Result<(), AllocError>
         ensures { OnOk result (self.new ≡ included self.old (site p recovery place)) }
     {
-        self.room.set_site(p, recovery, place)?;
-        if self.lists.contains(&self.room) {
+        if is_marked(&self.marks, p, recovery, place) {
             return Ok(());
         }
-        let site = Numbers::copied(alloc, self.room.values())?;
-        self.lists.insert(site)?;
-        Ok(())
+        self.room.set_site(p, recovery, place)?;
+        if !self.lists.contains(&self.room) {
+            let site = Numbers::copied(alloc, self.room.values())?;
+            self.lists.insert(site)?;
+        }
+        mark(&mut self.marks, p, recovery, place)
     }
 
     /// Appends the list at a place, if there is one.

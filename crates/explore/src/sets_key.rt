@@ -11,7 +11,7 @@ use crate::line_sets::others;
 use crate::numbers::Numbers;
 use lines_layout::{LINE_WORDS, LineId, Shape, WordId};
 use machine::View;
-use persist_buffer::{Pending, PendingEntry};
+use persist_buffer::Pending;
 use std::alloc::{AllocError, Global};
 
 /// Appends the bytes of the coherent values of so many words from this one on.
@@ -61,49 +61,34 @@ fn push_lists(bytes: &mut Vec<u8>, lists: &[Numbers]) -> Result<(), AllocError>
     Ok(())
 }
 
-/// Appends the bytes of the other values that a line of so many words may hold. The list is that of what is pending.
+/// Appends the bytes of the other values that a line of so many words may hold.
 fn push_line(
     bytes: &mut Vec<u8>,
     alloc: Global,
     pending: &Pending,
-    list: &[PendingEntry],
     line: LineId,
     count: usize,
 ) -> Result<(), AllocError>
-    requires list { list.now ≡ pending.now.memory.pending }
-    requires words { line_words * line + count ≤ max_words }
+    requires { line_words * line + count ≤ max_words }
     ensures { OnOk result (bytes.new.items ≡ bytes.old.items ++ coded (line_key pending.now.memory line count)) }
 {
     if pending.writes(line) == 0 {
         push_number(bytes, 0)?;
         return Ok(());
     }
-    let found = others(alloc, pending, list, line, count)?;
+    let found = others(alloc, pending, line, count)?;
     push_number(bytes, found.len() as u64)?;
     push_lists(bytes, &found)
 }
 
-/// Appends the bytes of the other values that each line may hold. The list is that of what is pending.
-fn push_lines(
-    bytes: &mut Vec<u8>,
-    alloc: Global,
-    pending: &Pending,
-    list: &[PendingEntry],
-) -> Result<(), AllocError>
-    requires { list.now ≡ pending.now.memory.pending }
+/// Appends the bytes of the other values that each line may hold.
+fn push_lines(bytes: &mut Vec<u8>, alloc: Global, pending: &Pending) -> Result<(), AllocError>
     ensures { OnOk result (bytes.new.items ≡ bytes.old.items ++ coded (lines_key pending.now.memory 0 pending.now.shape)) }
 {
     let counts = pending.shape().words();
     for line in 0..counts.len() {
         let number = LineId::new(line).unwrap();
-        push_line(
-            bytes,
-            alloc,
-            pending,
-            list,
-            number,
-            usize::from(counts[line]),
-        )?;
+        push_line(bytes, alloc, pending, number, usize::from(counts[line]))?;
     }
     Ok(())
 }
@@ -116,12 +101,9 @@ pub(crate) fn push_sets(
 ) -> Result<(), AllocError>
     ensures { OnOk result (bytes.new.items ≡ bytes.old.items ++ coded (sets_key view.now)) }
 {
-    let Ok(list) = view.pending_list(alloc) else {
-        return Err(AllocError);
-    };
     let pending = view.pending();
     push_words_now(bytes, pending)?;
-    push_lines(bytes, alloc, pending, &list)?;
+    push_lines(bytes, alloc, pending)?;
     Ok(())
 }
 
