@@ -11,8 +11,8 @@ any_first : {A : Type 0} (f : A → Bool) (xs ys : List A) → list_any f xs ≡
 any_first f [] ys any = absurd (true≢false (sym any))
 any_first f (x ∷ xs) ys any =
     elim (cases_Bool (f x)) [
-      | inl yes ↦ rw yes refl
-      | inr no ↦ rw no (any_first f xs ys (rw no at any))
+      | inl here ↦ rw here refl
+      | inr not_here ↦ rw not_here (any_first f xs ys (rw not_here at any))
     ]
 
 any_included : (x y : List ℕ) (lists : List (List ℕ)) → list_any (pointwise nat_eq x) lists ≡ true → list_any (pointwise nat_eq x) (included lists y) ≡ true
