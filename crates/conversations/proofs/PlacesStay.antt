@@ -143,6 +143,7 @@ module _ (lined : LinedObject) where
   ordered_about p (orders.Goto n) is = gone_about p n is
   ordered_about p orders.Reverse is = reversed_about (length p.session.past.history) p.session is
   ordered_about p orders.Ahead is = is
+  ordered_about p orders.Changed is = is
   ordered_about p orders.List is = is
   ordered_about p orders.Next is = is
   ordered_about p (orders.Pick n) is = picked_about p n (slice_get (next_steps false p.session.past.state) n) is

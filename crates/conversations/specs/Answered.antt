@@ -31,6 +31,7 @@ use Rattle.conversations.specs.declared.line_fault.LineFault.{LineFault}
 use Rattle.debugger.specs.declared.session.Session.{Session}
 use Rattle.conversations.specs.declared.desk.Desk.{Desk}
 use Rattle.conversations.specs.Asking.{asked_of, is_word}
+use Rattle.conversations.specs.Changed.{changed_text}
 use Rattle.conversations.specs.Checking.{Found, IsFound, ahead_found, found_text}
 use Rattle.conversations.specs.Desks.{Declaration, declaration, declared_after, info_text, without}
 use Rattle.conversations.specs.Eager.{is_met, most_steps, runs_of, steps_to, steps_until}
@@ -177,6 +178,7 @@ ordered lined p (orders.CrashTo image) = crashed_at p (closed_set_of p.session.p
 ordered lined p orders.Info = answer p (info_text p.declared)
 ordered lined p (orders.Delete id) = deleted_at p id
 ordered lined p orders.Ahead = answer p (steps_text (all_ahead p.ahead))
+ordered lined p orders.Changed = answer p (changed_text lined p.session.past.history p.session.past.state)
 ordered lined p orders.List = answer p (list_text lined p.session.past.state)
 ordered lined p orders.Next = answer p (next_text lined.object.layout p.session.past.state)
 ordered lined p (orders.Word word) = answer p (word_text lined.object.layout p.session.past.state word)

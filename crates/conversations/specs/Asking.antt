@@ -200,6 +200,7 @@ lone_of line =
     else if is_word line (codes "reverse") then Some orders.Reverse
     else if is_word line (codes "list") then Some orders.List
     else if is_word line (codes "ahead") then Some orders.Ahead
+    else if is_word line (codes "changed") then Some orders.Changed
     else None
 
 -- what a line orders whose first piece is a word that has more behind it, or a number

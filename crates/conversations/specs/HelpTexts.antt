@@ -34,6 +34,7 @@ row_of words.Undo = codes "undo [N]            goes back before the last step, o
 row_of words.Goto = codes "goto N              goes back to the state after the first N steps, as undo does; it never goes forward"
 row_of words.Reverse = codes "reverse             goes back, as undo does, to the last state behind in which a stop's condition holds, or to the beginning"
 row_of words.Show = codes "show                prints the machine's state"
+row_of words.Changed = codes "changed             prints the lines of show that were not there before the last step"
 row_of words.List = codes "list                prints the program that each processor runs, with > before the place where it is"
 row_of words.Print = codes "print NAME          prints the values of a word; print P:REG the value of a register"
 row_of words.Images = codes "images [COND]       lists what a crash may leave, or of that what makes COND false"
@@ -49,7 +50,7 @@ row_of words.Quit = codes "quit                ends; so does the end of the inpu
 
 -- the words that begin a line
 abbrev pub all_words : List Word
-all_words = words.Stop ∷ words.Watch ∷ words.Disarm ∷ words.Detach ∷ words.Info ∷ words.Delete ∷ words.Exec ∷ words.Drain ∷ words.Persist ∷ words.Settle ∷ words.Crash ∷ words.Go ∷ words.Continue ∷ words.Ahead ∷ words.Step ∷ words.Run ∷ words.Until ∷ words.Finish ∷ words.Next ∷ words.Number ∷ words.Back ∷ words.Undo ∷ words.Goto ∷ words.Reverse ∷ words.Show ∷ words.List ∷ words.Print ∷ words.Images ∷ words.All ∷ words.Set ∷ words.Why ∷ words.Check ∷ words.Values ∷ words.Notes ∷ words.History ∷ words.Help ∷ words.Quit ∷ []
+all_words = words.Stop ∷ words.Watch ∷ words.Disarm ∷ words.Detach ∷ words.Info ∷ words.Delete ∷ words.Exec ∷ words.Drain ∷ words.Persist ∷ words.Settle ∷ words.Crash ∷ words.Go ∷ words.Continue ∷ words.Ahead ∷ words.Step ∷ words.Run ∷ words.Until ∷ words.Finish ∷ words.Next ∷ words.Number ∷ words.Back ∷ words.Undo ∷ words.Goto ∷ words.Reverse ∷ words.Show ∷ words.Changed ∷ words.List ∷ words.Print ∷ words.Images ∷ words.All ∷ words.Set ∷ words.Why ∷ words.Check ∷ words.Values ∷ words.Notes ∷ words.History ∷ words.Help ∷ words.Quit ∷ []
 
 -- a row for each of them
 abbrev pub row_line : Word → Text

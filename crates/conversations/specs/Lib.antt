@@ -1,5 +1,6 @@
 pub mod Answered
 pub mod Asking
+pub mod Changed
 pub mod Checking
 pub mod Conversing
 pub mod Crashing

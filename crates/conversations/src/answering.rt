@@ -13,6 +13,7 @@ ghost use Rattle.jobs.specs.NextSteps.{next_steps};
 ghost use Rattle.explore.specs.Falls.{fall_at};
 ghost use Rattle.conversations.specs.Answered.{answer, answered, armed_at, crashed_at, deleted_at, gone_to, ordered, picked_at, place, made_at, place_by, unmade_at, walked_at, watched_at, KeepsShape};
 ghost use Rattle.conversations.specs.Asking.{as_asked};
+ghost use Rattle.conversations.specs.Changed.{changed_text};
 ghost use Rattle.conversations.specs.Checking.{nothing_found};
 ghost use Rattle.conversations.specs.Desks.{Declaration};
 ghost use Rattle.conversations.specs.Eager.{is_met, most_steps, runs_of, steps_to, steps_until};
@@ -20,6 +21,7 @@ ghost use Rattle.conversations.specs.HelpTexts.{hint_text};
 ghost use Rattle.conversations.specs.LineFaults.{line_fault_text};
 
 use crate::asked::Order;
+use crate::changed::push_changed;
 use crate::declaration::{declare, forget, forget_by, push_info};
 use crate::desk::{Desk, take_first};
 use crate::eager::{Aim, MOST_STEPS, runs_of, steps_to, steps_until};
@@ -387,6 +389,25 @@ fn follow_at(
     Ok(())
 }
 
+/// Appends what the last step changed.
+fn change(
+    lined: &LinedObject,
+    session: &Session,
+    desk: &Desk,
+    text: &mut String,
+) -> Result<(), AllocError>
+    requires shape { HasShape lined.now.object.layout (session_value meaning_of session.now) }
+    ensures { OnOk result (string_bytes text.new ≡ string_bytes text.old ++ changed_text lined.now session.now.past.history session.now.past.state) }
+{
+    push_changed(
+        desk.alloc,
+        text,
+        lined,
+        session.past.steps(),
+        &session.look(),
+    )
+}
+
 /// Does what is ordered, and appends the answer to a text that is empty.
 ///
 /// # Errors
@@ -426,6 +447,7 @@ fn obey(
         Order::Info => Ok(push_info(text, &desk.declared)?),
         Order::Delete(id) => Ok(delete(session, desk, text, *id)?),
         Order::Ahead => Ok(push_steps(desk.alloc, text, desk.ahead.all())?),
+        Order::Changed => Ok(change(lined, session, desk, text)?),
         Order::List => Ok(push_list(text, lined, &session.look())?),
         Order::Next => Ok(push_next_steps(desk.alloc, text, layout, session.past.machine())?),
         Order::Word(word) => Ok(push_word(text, layout, &session.look(), *word)?),

@@ -61,6 +61,8 @@ pub enum Order {
     Reverse,
     /// The steps ahead.
     Ahead,
+    /// What the last step changed.
+    Changed,
     /// The program that each processor runs, and where it is.
     List,
     /// The steps that may come next.

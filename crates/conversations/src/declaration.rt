@@ -36,7 +36,7 @@ fn push_byte(text: &mut String, byte: u8) -> Result<(), AllocError>
 }
 
 /// Appends the bytes of ASCII among these.
-fn push_bytes(text: &mut String, bytes: &[u8]) -> Result<(), AllocError>
+pub(crate) fn push_bytes(text: &mut String, bytes: &[u8]) -> Result<(), AllocError>
     ensures { OnOk result (string_bytes text.new ≡ string_bytes text.old ++ flat_map ascii bytes.now) }
 {
     for byte in bytes {

@@ -33,6 +33,7 @@ pub enum Word {
     Goto,
     Reverse,
     Show,
+    Changed,
     List,
     Print,
     Images,
@@ -48,7 +49,7 @@ pub enum Word {
 }
 
 /// How many words begin a line.
-const COUNT: usize = 37;
+const COUNT: usize = 38;
 
 /// These words, in the order in which they are told.
 const WORDS: [Word; COUNT] = [
@@ -77,6 +78,7 @@ const WORDS: [Word; COUNT] = [
     Word::Goto,
     Word::Reverse,
     Word::Show,
+    Word::Changed,
     Word::List,
     Word::Print,
     Word::Images,
@@ -140,6 +142,8 @@ impl Word {
             Word::Reverse =>
                 "reverse             goes back, as undo does, to the last state behind in which a stop's condition holds, or to the beginning",
             Word::Show => "show                prints the machine's state",
+            Word::Changed =>
+                "changed             prints the lines of show that were not there before the last step",
             Word::List =>
                 "list                prints the program that each processor runs, with > before the place where it is",
             Word::Print =>

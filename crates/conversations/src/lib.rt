@@ -5,7 +5,7 @@
 //! Definitions: `specs/Asking` (what a line asks), `LineFaults` and `HelpTexts` (what is printed where it asks nothing, and what
 //! may be said), `Answered` (what is answered to it, and where that leads), `Desks` (what is kept of the lines that declared stops
 //! and watches), `Eager` (which steps `run` and `finish` make), `Reversing` (where `reverse` goes), `Checking` (what `check`
-//! asks of all runs, and what is answered), `Printed`, `Listed` and `Imaged` (parts of answers), `Crashing` (what its law
+//! asks of all runs, and what is answered), `Printed`, `Listed`, `Changed` and `Imaged` (parts of answers), `Crashing` (what its law
 //! states of `crash V ..`), `Turning` (one turn, in its parts),
 //! `Conversing` (the whole command), `SameText`
 //! and `Staying` (what the other laws state).
@@ -13,6 +13,7 @@
 
 mod answering;
 mod asked;
+mod changed;
 mod checked;
 mod command;
 mod declaration;

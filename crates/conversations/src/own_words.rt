@@ -289,6 +289,8 @@ pub(crate) fn lone_in(line: &[u8]) -> Option<Order>
         Some(Order::List)
     } else if is_word(line, b"ahead") {
         Some(Order::Ahead)
+    } else if is_word(line, b"changed") {
+        Some(Order::Changed)
     } else {
         None
     }
