@@ -5,8 +5,10 @@ ghost use Rattle.commands.specs.Devices.{CanCountOneMore};
 ghost use Rattle.commands.specs.Serving.{MakesReport, Serves, used};
 ghost use Rattle.commands.specs.Works.{Makes};
 ghost use Rattle.debug_scripts.specs.Replies.{Told};
+ghost use Rattle.serde_json.specs.View.{view};
 ghost use Rattle.json_texts.specs.Objects.{IsJsonOf, Tree};
 ghost use Rattle.json_scripts.specs.DebugData.{AreJsonOf, debug_command, debug_on, replies_data, replies_report, told_items};
+ghost use Rattle.json_scripts.specs.Headed.{headed};
 
 use crate::reply_value::push_reply;
 use commands::{
@@ -42,13 +44,19 @@ impl<'a> Form<Vec<Value>> for Json<'a> {
     }
 }
 
+/// The object of the report, with these replies.
+fn headed_value(alloc: Global, replies: Value) -> Result<Value, AllocError>
+    ensures { IfOk result (λ value. view value ≡ headed (view replies)) }
+{
+    json!(in alloc; {"format": FORMAT, "command": "debug", "replies": replies})
+}
+
 /// The value of these replies.
-#[tactic(auto, using(json_texts::proofs::Items::list_steps))]
 fn replies_value(alloc: Global, items: Vec<Value>) -> Result<Value, AllocError>
     ensures { IfOk result (λ value. (trees : List Tree) → AreJsonOf trees items.items → IsJsonOf (replies_data trees) value) }
 {
     let replies = Value::from(items);
-    json!(in alloc; {"format": FORMAT, "command": "debug", "replies": replies})
+    headed_value(alloc, replies)
 }
 
 /// The report of these replies, which are the JSON of trees.
