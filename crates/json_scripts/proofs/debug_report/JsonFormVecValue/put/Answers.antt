@@ -14,4 +14,4 @@ returns c =
     let old = c.args.page.now.items in
     let new = c.push_reply.new.items.items in
     on_ok_weaker c.push_reply.result (λ (gets : GetsItems old new (told_items lined one)) (told : List Told) (so_far : AreJsonOf (flat_map (told_items lined) told) old).
-        told_more lined told one old new gets so_far) c.push_reply.ensures
+    told_more lined told one old new gets so_far) c.push_reply.ensures
