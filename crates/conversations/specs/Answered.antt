@@ -1,5 +1,5 @@
 -- What is answered to a line, and where that leads.
-use Rattle.std.specs.Prelude.{ℕ, ◌-◌, Bool, Option, Some, None, Result, Ok, Err, List, [], ◌∷◌, ◌++◌, codes, decimal, drop, if◌then◌else◌, is_some, ◌||◌, ◌&&◌, false, length, min, nat_lt, slice_get}
+use Rattle.std.specs.Prelude.{ℕ, ◌-◌, Bool, Option, Some, None, Result, Ok, Err, List, [], ◌∷◌, ◌++◌, codes, decimal, drop, if◌then◌else◌, is_some, ◌||◌, ◌&&◌, false, true, length, min, nat_lt, slice_get}
 use Rattle.std.specs.List.{flat_map}
 use Rattle.lines_layout.specs.Layouts.{NamedLines}
 use Rattle.lines_layout.specs.Names.{Text}
@@ -17,7 +17,7 @@ use Rattle.debugger.specs.Notes.{Meaning, meaning}
 use Rattle.debugger.specs.Stops.{armed}
 use Rattle.debugger.specs.Writes.{word_selection}
 use Rattle.debugger.specs.declared.fault.SessionFault.TheVariants.{DoubleId, TooFar}
-use Rattle.debugger.specs.Sessions.{SessionValue, opened, stop_of, unmade, watch, watch_of, with_stop, with_watch, without_stop, without_watch}
+use Rattle.debugger.specs.Sessions.{SessionValue, Watch, opened, stop_of, unmade, watch, watch_of, with_stop, with_watch, without_stop, without_watch}
 use Rattle.debugger.specs.Values.{session_value}
 use Rattle.debug_scripts.specs.Ahead.{Ahead, all_ahead, steps_ahead}
 use Rattle.debug_scripts.specs.DebugReports.{HasShape, Stand, follow, stand}
@@ -97,6 +97,18 @@ gone_at lined p steps =
 abbrev pub followed_at : LinedObject → Place → Command → Answer
 followed_at lined p command = answer_by (follow lined.object.layout (stand p.session p.ahead []) command) (declared_after command p.declared)
 
+-- a command that neither gathers nor makes steps
+abbrev pub is_beside_steps : Command → Bool
+is_beside_steps (commands.Gather step) = false
+is_beside_steps commands.Go = false
+is_beside_steps commands.Continue = false
+is_beside_steps (commands.Back n) = true
+is_beside_steps commands.Show = true
+is_beside_steps commands.Images = true
+is_beside_steps (commands.Values asked) = true
+is_beside_steps (commands.Disarm id) = true
+is_beside_steps (commands.Detach id) = true
+
 -- the same here, where breaks may halt the steps that it makes
 abbrev pub scripted_at : LinedObject → Place → Command → Answer
 scripted_at lined p (commands.Gather step) = followed_at lined p (commands.Gather step)
@@ -141,11 +153,17 @@ armed_at p line id cond =
 abbrev pub halting : Bool → ℕ → Option Moment
 halting halts word = if halts then Some (moments.Write word) else None
 
--- The same of a watch. One that halts is a break of its id, too.
+-- the same of a watch that is attached, which may halt steps
+abbrev pub attached_at : Place → List ℕ → Watch → Option Moment → Answer
+attached_at p line w halts =
+    if is_some (watch_of p.session w.id) then answer p (fault_line DoubleId)
+    else answer (place (with_watch p.session w) p.ahead (p.declared ++ declaration kinds.Watch w.id halts line ∷ [])) []
+
+-- the same of a watch of a word; one that halts is a break of its id, too
 abbrev pub watched_at : Place → List ℕ → ℕ → ℕ → Bool → Answer
 watched_at p line id word halts =
-    if is_some (watch_of p.session id) || (halts && has_break p.declared id) then answer p (fault_line DoubleId)
-    else answer (place (with_watch p.session (watch id (meaning [] (word_selection word)))) p.ahead (p.declared ++ declaration kinds.Watch id (halting halts word) line ∷ [])) []
+    if halts && has_break p.declared id then answer p (fault_line DoubleId)
+    else attached_at p line (watch id (meaning [] (word_selection word))) (halting halts word)
 
 -- The same of a break. Where no instruction stands on its line, it is a wrong line, and all stays.
 abbrev pub broken_at : LinedObject → Place → List ℕ → ℕ → Moment → Answer

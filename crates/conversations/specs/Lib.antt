@@ -1,5 +1,6 @@
 pub mod Answered
 pub mod Asking
+pub mod Breaking
 pub mod Breaks
 pub mod Changed
 pub mod Checking
