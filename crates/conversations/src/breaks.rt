@@ -127,6 +127,7 @@ pub(crate) fn cut_of(
 }
 
 /// The steps up to there.
+#[tactic(auto, using(std::proofs::lemmas::List::take_min))]
 pub(crate) fn up_to(cut: Option<Cut>, steps: &[Step]) -> &[Step]
     ensures { result.now ≡ up_to cut steps.now }
 {
