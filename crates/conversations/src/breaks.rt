@@ -44,11 +44,11 @@ fn has_breaks(declared: &[Declaration]) -> bool
 fn halts_at(
     lined: &LinedObject,
     before: &View<'_>,
-    seen: Seen,
+    seen: &Seen,
     after: &View<'_>,
     one: &Declaration,
 ) -> bool
-    ensures { result ≡ halts_at lined.now before.now seen after.now one.now }
+    ensures { result ≡ halts_at lined.now before.now seen.now after.now one.now }
 {
     match one.halts() {
         Some(moment) => moment.is_at(lined, before, seen, after),
@@ -61,10 +61,10 @@ fn break_at(
     lined: &LinedObject,
     declared: &[Declaration],
     before: &View<'_>,
-    seen: Seen,
+    seen: &Seen,
     after: &View<'_>,
 ) -> Option<u32>
-    ensures { result ≡ break_at lined.now declared.now before.now seen after.now }
+    ensures { result ≡ break_at lined.now declared.now before.now seen.now after.now }
 {
     for one in declared {
         if halts_at(lined, before, seen, after, one) {
@@ -89,7 +89,7 @@ fn first_cut(
         let Ok(seen) = after.step(*step) else {
             return None;
         };
-        if let Some(id) = break_at(lined, declared, &before.view(), seen, &after.view()) {
+        if let Some(id) = break_at(lined, declared, &before.view(), &seen, &after.view()) {
             return Some(Cut {
                 count: made + 1,
                 id,

@@ -184,18 +184,18 @@ impl Moment {
         self,
         lined: &LinedObject,
         before: &View<'_>,
-        seen: Seen,
+        seen: &Seen,
         after: &View<'_>,
     ) -> bool
-        ensures { result ≡ is_moment lined.now before.now seen after.now self }
+        ensures { result ≡ is_moment lined.now before.now seen.now after.now self }
     {
         match self {
             Moment::Line(line) => {
                 one_comes_to(lined, line, before, after, lined.object.processors())
             }
-            Moment::Crash => is_crash(seen),
-            Moment::Trap => traps(seen),
-            Moment::Write(word) => writes_word(word, seen),
+            Moment::Crash => is_crash(*seen),
+            Moment::Trap => traps(*seen),
+            Moment::Write(word) => writes_word(word, *seen),
         }
     }
 
