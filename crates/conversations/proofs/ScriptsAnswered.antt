@@ -77,7 +77,7 @@ one_watch s stops watches w =
     ap (λ (ws : List sessions.Watch). prepared s (map stop_ordered stops) ws) (map-append watch_ordered watches (w ∷ []))
     ∙ watches_more (with_stops (opened s) (map stop_ordered stops)) (map watch_ordered watches) (watch_ordered w)
 
--- ---- an id that is new is free
+-- ---- an id that is new is no
 
 stops_kept : (v : SessionValue) (ws : List sessions.Watch) → (with_watches v ws).stops ≡ v.stops
 stops_kept v [] = refl
@@ -132,29 +132,29 @@ commanded names s script c =
 one_line : (lined : LinedObject) (s : State) (script next : Script) (line : List ℕ) (found : Found) (row : Said) (ds : List Declaration) → has_breaks ds ≡ false → row_of lined.object.layout line ≡ Ok row → Adds lined.object.layout script row next
     → behind (stands lined.object.layout s script).text (answer_to lined (place (stands lined.object.layout s script).session (stands lined.object.layout s script).ahead ds) line found) ≡ stands lined.object.layout s next
 unfolding stop_as values_as
-one_line lined s script next line found Blank ds no read adds = rw (read, adds) (ap (λ (x : Text). stand (stands lined.object.layout s script).session (stands lined.object.layout s script).ahead x) (append-nil (stands lined.object.layout s script).text))
-one_line lined s script next line found (Stop id text) ds no read (none, cond, good, new, is) =
+one_line lined s script next line found Blank ds free read adds = rw (read, adds) (ap (λ (x : Text). stand (stands lined.object.layout s script).session (stands lined.object.layout s script).ahead x) (append-nil (stands lined.object.layout s script).text))
+one_line lined s script next line found (Stop id text) ds free read (none, cond, good, new, is) =
     let order : StopOrder = record { id = id; cond = cond } in
     rw (read, good, is, none, stop_is_free s script id new)
     (ap (λ (x : SessionValue). stand x (steps_ahead [] []) []) (sym (one_stop s script.stops script.watches order)))
-one_line lined s script next line found (Watch id word) ds no read (none, new, is) =
+one_line lined s script next line found (Watch id word) ds free read (none, new, is) =
     let order : WatchOrder = record { id = id; word = word } in
     rw (read, is, none, watch_is_free s script id new)
     (ap (λ (x : SessionValue). stand x (steps_ahead [] []) []) (sym (one_watch s script.stops script.watches order)))
-one_line lined s script next line found (Ask word tokens) ds no read (given, are, is) = rw (read, given_are_read lined.object.layout [] tokens given are, is) (commanded lined.object.layout s script _)
-one_line lined s script next line found (Do command) ds no read is =
+one_line lined s script next line found (Ask word tokens) ds free read (given, are, is) = rw (read, given_are_read lined.object.layout [] tokens given are, is) (commanded lined.object.layout s script _)
+one_line lined s script next line found (Do command) ds free read is =
     let z = stands lined.object.layout s script in
-    rw (read, is) (ap (behind z.text) (gone_alike lined (place z.session z.ahead ds) no no command) ∙ commanded lined.object.layout s script command)
+    rw (read, is) (ap (behind z.text) (gone_alike lined (place z.session z.ahead ds) free command) ∙ commanded lined.object.layout s script command)
 
 -- and it declares no break
 no_break : (lined : LinedObject) (p : Place) (script next : Script) (line : List ℕ) (found : Found) (row : Said) → has_breaks p.declared ≡ false → row_of lined.object.layout line ≡ Ok row → Adds lined.object.layout script row next
     → has_breaks (answer_to lined p line found).place.declared ≡ false
 unfolding stop_as values_as
-no_break lined p script next line found Blank no read adds = rw read no
-no_break lined p script next line found (Stop id text) no read (none, cond, good, new, is) = rw (read, good) (none_either _ _ _ no (none_more p.declared _ id line no))
-no_break lined p script next line found (Watch id word) no read (none, new, is) = rw read (none_either _ _ _ no (none_more p.declared _ id line no))
-no_break lined p script next line found (Ask word tokens) no read (given, are, is) = rw (read, given_are_read lined.object.layout [] tokens given are) no
-no_break lined p script next line found (Do command) no read is = rw read (none_scripted lined p command no)
+no_break lined p script next line found Blank free read adds = rw read free
+no_break lined p script next line found (Stop id text) free read (none, cond, good, new, is) = rw (read, good) (none_either _ _ _ free (none_more p.declared _ id line free))
+no_break lined p script next line found (Watch id word) free read (none, new, is) = rw read (none_either _ _ _ free (none_more p.declared _ id line free))
+no_break lined p script next line found (Ask word tokens) free read (given, are, is) = rw (read, given_are_read lined.object.layout [] tokens given are) free
+no_break lined p script next line found (Do command) free read is = rw read (none_scripted lined p command free)
 
 -- where the answers to lines lead, with their texts behind that of a stand
 abbrev pub after_lines : LinedObject → List (Exchange Found) → List Declaration → Stand → Stand
@@ -166,16 +166,16 @@ after_lines lined lines ds z =
 -- lines that are added to a script lead where the script with them stands
 all_lines : (lined : LinedObject) (s : State) (script whole : Script) (lines : List (Exchange Found)) (ds : List Declaration) → has_breaks ds ≡ false → AddAll lined.object.layout script (lines_in lines) whole
     → after_lines lined lines ds (stands lined.object.layout s script) ≡ stands lined.object.layout s whole
-all_lines lined s script whole [] ds no is =
+all_lines lined s script whole [] ds free is =
     ap (λ (x : Text). stand (stands lined.object.layout s script).session (stands lined.object.layout s script).ahead x) (append-nil (stands lined.object.layout s script).text) ∙ ap (stands lined.object.layout s) (sym is)
-all_lines lined s script whole (x ∷ lines) ds no (row, next, is, adds, others) =
+all_lines lined s script whole (x ∷ lines) ds free (row, next, is, adds, others) =
     let z = stands lined.object.layout s script in
     let a = answer_to lined (place z.session z.ahead ds) x.line x.found in
     let end = place_after (partner lined) a.place lines in
     let read = row_is_read lined.object.layout x.line row is in
-    let still : has_breaks a.place.declared ≡ false = no_break lined (place z.session z.ahead ds) script next x.line x.found row no read adds in
+    let still : has_breaks a.place.declared ≡ false = no_break lined (place z.session z.ahead ds) script next x.line x.found row free read adds in
     ap (λ (y : Text). stand end.session end.ahead y) (sym (append_assoc z.text a.text (replies lined a.place lines)))
-    ∙ ap (after_lines lined lines a.place.declared) (one_line lined s script next x.line x.found row ds no read adds)
+    ∙ ap (after_lines lined lines a.place.declared) (one_line lined s script next x.line x.found row ds free read adds)
     ∙ all_lines lined s next whole lines a.place.declared still others
 
 pub scripts_are_answered : ScriptsAreAnswered
