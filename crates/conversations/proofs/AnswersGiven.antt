@@ -63,25 +63,27 @@ module _ (v w : SessionValue) (steps : List Step) (h : Halt) (halted : HaltsAt v
   tried_within count is = rw is (tried_ahead v steps steps h halted refl)
 
 -- the steps up to a break
-pub few : (cut : Option Cut) (steps : List Step) → length (up_to cut steps) ≤ length steps
+few : (cut : Option Cut) (steps : List Step) → length (up_to cut steps) ≤ length steps
 few None steps = omega arith
 few (Some cut) steps = rw (length-take cut.count steps) (min-le_right cut.count (length steps))
 
-module _ {E : Type 0} (lined : LinedObject) (v w : SessionValue) (a : Ahead) (ds : List Declaration) (cut : Option Cut) (steps some : List Step)
-    (is : cut ≡ cut_of lined ds v.past.state steps) (they : some ≡ up_to cut steps) where
-  -- steps up to a break are made
-  pub some_made : (text : List ℕ) (r : Result ℕ E) → OnOk r (w ≡ after v (take (made some (halt_of v some)) some)) → OnOk r (text ≡ cut_line cut (halt_of v some))
-      → OnOk r (answer (place w a ds) text ≡ made_at lined (place v a ds) steps)
-  some_made text (Err fault) moved written = tt
-  some_made text (Ok count) moved written = rw (moved, written, they, is) refl
+pub few_within : {E : Type 0} (cut : Option Cut) (steps some : List Step) → some ≡ up_to cut steps → (r : Result ℕ E) → IfOk r (λ count. count ≤ length some) → IfOk r (λ count. count ≤ length steps)
+few_within cut steps some they (Err fault) within = tt
+few_within cut steps some they (Ok count) within =
+    let less : count ≤ length (up_to cut steps) = rw they at within in
+    omega (arith, few cut steps, less)
 
-  pub some_tried : (r : Result ℕ E) → IfOk r (λ count. count ≡ tried some (halt_of v some)) → IfOk r (λ count. count ≡ tried_of lined ds v steps)
-  some_tried (Err fault) tries = tt
-  some_tried (Ok count) tries = rw (they, is) at tries
+-- steps up to a break are made
+pub some_made : {E : Type 0} (lined : LinedObject) (v w : SessionValue) (a : Ahead) (ds : List Declaration) (cut : Option Cut) (steps some : List Step)
+    → cut ≡ cut_of lined ds v.past.state steps → some ≡ up_to cut steps → (text : List ℕ) (r : Result ℕ E) → OnOk r (w ≡ after v (take (made some (halt_of v some)) some))
+    → OnOk r (text ≡ cut_line cut (halt_of v some)) → OnOk r (answer (place w a ds) text ≡ made_at lined (place v a ds) steps)
+some_made lined v w a ds cut steps some is they text (Err fault) moved written = tt
+some_made lined v w a ds cut steps some is they text (Ok count) moved written = rw (moved, written, they, is) refl
 
-  pub some_within : (r : Result ℕ E) → IfOk r (λ count. count ≤ length some) → IfOk r (λ count. count ≤ length steps)
-  some_within (Err fault) within = tt
-  some_within (Ok count) within = omega (arith, few cut steps, (rw they at within))
+pub some_tried : {E : Type 0} (lined : LinedObject) (v : SessionValue) (ds : List Declaration) (cut : Option Cut) (steps some : List Step)
+    → cut ≡ cut_of lined ds v.past.state steps → some ≡ up_to cut steps → (r : Result ℕ E) → IfOk r (λ count. count ≡ tried some (halt_of v some)) → IfOk r (λ count. count ≡ tried_of lined ds v steps)
+some_tried lined v ds cut steps some is they (Err fault) tries = tt
+some_tried lined v ds cut steps some is they (Ok count) tries = rw (they, is) at tries
 
 -- those behind it are ahead still
 pub gone_so : (lined : LinedObject) (v w : SessionValue) (a b : Ahead) (ds : List Declaration) (steps : List Step) (text : List ℕ) (count : ℕ)

@@ -200,11 +200,11 @@ impl Moment {
     }
 
     /// Whether it may come at all: an instruction stands on the line that it names.
-    pub(crate) fn may_come(self, lined: &LinedObject) -> bool
-        ensures { result ≡ may_come lined.now self }
+    pub(crate) fn may_come(&self, lined: &LinedObject) -> bool
+        ensures { result ≡ may_come lined.now self.now }
     {
         match self {
-            Moment::Line(line) => stands_in_some(lined, line, lined.object.processors()),
+            Moment::Line(line) => stands_in_some(lined, *line, lined.object.processors()),
             Moment::Crash | Moment::Trap | Moment::Write(_) => true,
         }
     }
