@@ -130,9 +130,9 @@ either_ahead false v w x y n a = refl
 -- they leave the steps ahead, and do the same whatever these are
 beside_ahead : (names : NamedLines) (v : SessionValue) (n a : Ahead) (command : Command) → is_beside_steps command ≡ true
     → follow names (stand v a []) command ≡ stand (follow names (stand v n []) command).session a (follow names (stand v n []) command).text
-beside_ahead names v n a (commands.Gather step) no = absurd (cc)
-beside_ahead names v n a commands.Go no = absurd (cc)
-beside_ahead names v n a commands.Continue no = absurd (cc)
+beside_ahead names v n a (commands.Gather step) never = absurd (cc)
+beside_ahead names v n a commands.Go never = absurd (cc)
+beside_ahead names v n a commands.Continue never = absurd (cc)
 beside_ahead names v n a (commands.Back count) is = either_ahead (nat_lt (length v.past.history) count) _ _ _ _ n a
 beside_ahead names v n a commands.Show is = refl
 beside_ahead names v n a commands.Images is = refl
