@@ -69,11 +69,13 @@ impl Waiting {
     }
 
     /// The same of those that were gathered: the others are forgotten.
+    #[tactic(auto, using(std::proofs::lemmas::List::drop_at))]
     pub(crate) fn pass_gathered(&mut self, count: usize)
         requires { count ≤ length self.old.gathered }
         ensures { self.new ≡ steps_ahead (drop count self.old.gathered) [] }
     {
-        self.steps.pass(self.left + count);
+        self.steps.pass(self.left);
+        self.steps.pass(count);
         self.left = self.steps.all().len();
     }
 }
