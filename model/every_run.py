@@ -17,7 +17,7 @@ from model.fences import fences_of, fences_told, one_fence_told
 from model.machine import Machine
 from model.mends import mend_told, moved_told, wrong_dear_mend
 from model.programs import (
-    MEETINGS, SMALL_REGISTERS, append_lines, doubled, is_append, lacking_lines, meeting_lines, misplaced_lines, order_condition,
+    MEETINGS, SMALL_REGISTERS, append_lines, behind_a_clflush, doubled, is_append, lacking_lines, meeting_lines, misplaced_lines, order_condition,
     random_condition, small_lines, values_condition,
 )
 from model.rules import MASK, REGISTERS, Image, Site, Step
@@ -73,6 +73,9 @@ RUNS_AT_LEAST = {
     "fences, needed": 25,
     "fences, not needed, left out": 200,
     "fences, not needed, kept": 8,
+    "fences, least": 40,
+    "fences, least, some are kept": 4,
+    "fences, no more can go, some are kept": 1,
     "one fence, needed": 10,
     "one fence, not needed": 60,
     "mend, put 1": 10,
@@ -296,6 +299,8 @@ class RunComparison(Comparison):
             self.ask("fences of a program that holds", "fences", asked, [], "\n".join(told), status, is_fault=False)
             for line in told:
                 self.counts[f"fences, {line.partition(': ')[2]}"] += line.startswith("cpu ")
+            kept = ", some are kept" * any(line.endswith(", kept") for line in told)
+            self.counts[f"fences, {told[-1].partition(', ')[2]}{kept}"] += 1
             self.ask(f"one fence, {one.partition(': ')[2]}", "fences", [*asked, *only], [], one, status, is_fault=False)
 
     def ask_mend(self, runs: Runs, options: Namespace, states: int = MOST_STATES_TO_MEND, most: int = MOST_SETS) -> None:
@@ -431,21 +436,26 @@ def compare_runs(comparison: RunComparison, numbers: Iterable[int]) -> None:
 
 
 def compare_fences(comparison: RunComparison, numbers: Iterable[int]) -> None:
-    """Which flushes and fences are needed of programs that store, flush and store again; of every second one each stands twice."""
+    """Which flushes and fences are needed of programs that store, flush and store again; of every second one each stands twice, and every
+    fourth one is asked about once more, with each flush behind a `clflush`."""
     for number in numbers:
-        lines = append_lines(number)
-        program = comparison.load(doubled(lines) if number % 2 else lines)
-        words = words_of(number, 11)
-        options = argparse.Namespace(all=order_condition(program, words), ends=None, recovered=None)
-        sites = [site for site, _ in fences_of(program)]
-        try:
-            runs = Runs(Machine(program), next(words) % 2 == 0, MOST_STATES)
-        except (TooManyStates, NoRoom):
-            comparison.counts["left out"] += 1
-            continue
-        if sites:
-            comparison.ask_fences(runs, options, sites[next(words) % len(sites)])
-        comparison.ask_mend(runs, options)
+        for changed in ([list, behind_a_clflush], [doubled], [list], [doubled])[number % 4]:
+            compare_needs(comparison, number, comparison.load(changed(append_lines(number))))
+
+
+def compare_needs(comparison: RunComparison, number: int, program: Program) -> None:
+    """Which flushes and fences of a program are needed, and what it lacks."""
+    words = words_of(number, 11)
+    options = argparse.Namespace(all=order_condition(program, words), ends=None, recovered=None)
+    sites = [site for site, _ in fences_of(program)]
+    try:
+        runs = Runs(Machine(program), next(words) % 2 == 0, MOST_STATES)
+    except (TooManyStates, NoRoom):
+        comparison.counts["left out"] += 1
+        return
+    if sites:
+        comparison.ask_fences(runs, options, sites[next(words) % len(sites)])
+    comparison.ask_mend(runs, options)
 
 
 def compare_mends(comparison: RunComparison, numbers: Iterable[int]) -> None:

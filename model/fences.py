@@ -5,6 +5,8 @@ from __future__ import annotations
 import re
 from argparse import Namespace
 from collections.abc import Iterable, Iterator
+from itertools import combinations
+from math import comb
 
 from model.machine import Machine
 from model.rules import Site
@@ -111,6 +113,27 @@ def one_fence_told(program: Program, site: Site, options: Namespace) -> str:
     return fence_line(site, dict(fences_of(program))[site], said)
 
 
+# All larger sets are tried where they are so few; otherwise, where no more than this, the sets of one more of what can go alone.
+FEW_SETS, MOST_SETS = 64, 1000
+
+
+def sets_larger(needs: dict[Site, str], alone: list[Site], most: int) -> Iterator[tuple[Site, ...]]:
+    """The sets that are larger than what is left out, none of which is to do."""
+    if sum(comb(len(needs), size) for size in range(most + 1, len(needs) + 1)) <= FEW_SETS:
+        for size in range(most + 1, len(needs) + 1):
+            yield from combinations(needs, size)
+    else:
+        yield from combinations(alone, most + 1)
+
+
+def is_least(program: Program, needs: dict[Site, str], options: Namespace) -> bool:
+    """Whether without each larger set of flushes and fences than is left out some run breaks a condition."""
+    alone = [site for site, said in needs.items() if said.startswith("not needed")]
+    most = sum(said == "not needed, left out" for said in needs.values())
+    few = comb(len(alone), most + 1) <= MOST_SETS
+    return few and all(told_without(program, some, options) == "fails" for some in sets_larger(needs, alone, most))
+
+
 # An operand that names its word by a register, and not by its name, which may begin with an r too.
 BY_A_REGISTER = re.compile(r"\[r(?:[abcd]x|[sd]i|[sb]p|8|9|1[0-5])\]")
 
@@ -130,4 +153,5 @@ def fences_told(runs: Runs, options: Namespace) -> tuple[list[str], int]:
     lines += [fence_line(site, instruction, needs[site]) for site, instruction in fences_of(program)]
     named = not any(BY_A_REGISTER.search(instruction) for _, instruction in fences_of(program))
     settled = named and not any(told.startswith("not known") for told in needs.values())
-    return [*lines, f"keep {len(kept)} of {len(needs)}" + ", no more can go" * settled], status
+    said = ", least" if settled and is_least(program, needs, options) else ", no more can go" * settled
+    return [*lines, f"keep {len(kept)} of {len(needs)}{said}"], status

@@ -292,6 +292,11 @@ def doubled(lines: Iterable[str]) -> list[str]:
     return [line for line in lines for _ in range(2 if line.split()[:1] and line.split()[0] in FENCES else 1)]
 
 
+def behind_a_clflush(lines: Iterable[str]) -> list[str]:
+    """The lines of a text, before each other flush a `clflush` of the same word: it needs no fence, and it is the first that may go."""
+    return [more for line in lines for more in ([re.sub("^(clwb|clflushopt) ", "clflush ", line)] * bool(re.match("clwb |clflushopt ", line)) + [line])]
+
+
 def lacking_lines(number: int) -> Iterator[str]:
     """A program that stores some words, and then one that says that they are there, with few flushes and fences; every fourth has two
     processors that store a word each, and then load the other's."""

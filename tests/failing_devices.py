@@ -47,7 +47,7 @@ NEXT = "exec 0: clflush [x]: delay FL 0\ndrain 0 0: left 0 0 W x 1\ncrash: crash
 # Without steps: nothing is needed for what every memory meets, and nothing is missing.
 FENCES = (
     "all holds\ncpu 0 main 1 clflush [x]: not needed, left out\ncpu 0 main 2 sfence: not needed, left out\n"
-    "keep 0 of 2, no more can go\n"
+    "keep 0 of 2, least\n"
 )
 # All schedules end in one way, which keeps the condition.
 WRITE = "litmus 1\nline x\ncpu\nmov [x], 1\nend\n"

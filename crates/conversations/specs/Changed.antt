@@ -1,5 +1,5 @@
 -- What the last step changed.
-use Rattle.std.specs.Prelude.{ℕ, ◌-◌, ◌==◌, if◌then◌else◌, List, [], ◌++◌, bytes_eq, length, take}
+use Rattle.std.specs.Prelude.{◌-◌, ◌==◌, if◌then◌else◌, List, [], ◌++◌, bytes_eq, length, take}
 use Rattle.std.specs.List.{flat_map, list_any}
 use Rattle.lines_layout.specs.Names.{Text}
 use Rattle.litmus_text.specs.declared.text_lines.LinedObject.{LinedObject}

@@ -676,7 +676,13 @@ fn change(
     requires shape { HasShape lined.now.object.layout (session_value meaning_of session.now) }
     ensures { OnOk result (string_bytes text.new ≡ string_bytes text.old ++ changed_text lined.now session.now.past.history session.now.past.state) }
 {
-    push_changed(desk.alloc, text, lined, session.past.steps(), &session.look())
+    push_changed(
+        desk.alloc,
+        text,
+        lined,
+        session.past.steps(),
+        &session.look(),
+    )
 }
 
 /// Does what is ordered, and appends the answer to a text that is empty.

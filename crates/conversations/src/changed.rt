@@ -10,7 +10,7 @@ use crate::declaration::push_bytes;
 use commands::{machine_after, push_state};
 use lines_layout::Layout;
 use litmus_text::LinedObject;
-use machine::{Machine, Step, View};
+use machine::{Step, View};
 use std::alloc::{AllocError, Global};
 use text_tokens::Lines;
 

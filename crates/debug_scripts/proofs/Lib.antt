@@ -4,6 +4,7 @@ pub mod StepsLeft
 pub mod ListsMadeItemByItem
 pub mod NoStepIsLost
 pub mod OwnIds
+pub mod RepliesAreTheReport
 pub mod Plans
 pub mod RowForms
 pub mod GivenForms

@@ -1,17 +1,21 @@
 -- No two stops of a script have one id, nor have two watches.
-use Rattle.std.proofs.Common.{◌≡◌, ◌≢◌, ℕ, Ok, List, [], ◌∷◌, map, sym, subst}
+use Rattle.std.proofs.Common.{◌≡◌, ◌≢◌, ◌∙◌, ℕ, Ok, List, [], ◌∷◌, ap, length, map, refl, sym, subst}
 use Rattle.std.specs.List.{AllPairs}
 use Rattle.lines_layout.specs.Layouts.{NamedLines}
 use Rattle.text_tokens.specs.Text.{lines_of}
 use Rattle.text_tokens.proofs.TestsThatPassed.{refused_as_ok}
 use Rattle.commands.specs.declared.fault.Refused.TheVariants as refusals
-use Rattle.commands.specs.Works.{Makes}
+use Rattle.commands.specs.declared.fault.Stage.TheVariants as stages
+use Rattle.commands.specs.Works.{Makes, work}
+use Rattle.isa.specs.Objects.{Object}
+use Rattle.machine.specs.Objects.{opening}
+use Rattle.machine.specs.State.{State}
 use Rattle.debugger.specs.Stops.{Armed}
 use Rattle.debugger.specs.Sessions as sessions
 use Rattle.debug_scripts.specs.Rows.{Said, Blank, Stop, Watch, Ask, Do}
 use Rattle.debug_scripts.specs.Scripts.{HasOwnIds, Script, empty_script, script_of, script_work}
 use Rattle.debug_scripts.specs.Grammar.{AddAll, Adds}
-use Rattle.debug_scripts.specs.DebugPlans.{IsPlan, Plan, stop_ordered, watch_ordered}
+use Rattle.debug_scripts.specs.DebugPlans.{IsPlan, Plan, plan, stop_ordered, watch_ordered}
 use Rattle.debug_scripts.proofs.Apart.{apart_push, none_apart, same_ids}
 use Rattle.debug_scripts.proofs.ScriptsAreRead.{only_scripts}
 
@@ -42,3 +46,15 @@ stops_own f xs p q is own same = same_ids f stop_ordered (λ (t : Armed). t.id) 
 
 pub watches_own : {X : Type 0} (f : X → sessions.Watch) (xs : List X) (p q : Plan) → q ≡ p → IsPlan q → map f xs ≡ map watch_ordered p.script.watches → AllPairs ◌≢◌ (map (λ x. (f x).id) xs)
 watches_own f xs p q is own same = same_ids f watch_ordered (λ (w : sessions.Watch). w.id) xs p.script.watches same ((subst IsPlan is own).ids.watches)
+
+-- a script that was read is a plan on the program's machine
+pub script_is_plan : (object : Object) (names layout : NamedLines) (text : List ℕ) (script : Script) (machine : State) → names ≡ object.layout → layout ≡ object.layout
+    → Makes (script_work layout text) (Ok script) → Makes (work stages.Machine (Ok (opening object))) (Ok machine) → IsPlan (plan names machine script)
+unfolding Makes
+script_is_plan object names layout text script machine named laid read loaded =
+    let is : opening object ≡ machine = cc in
+    let shape : (opening object).shape ≡ map length object.layout = refl in
+    record {
+      shape = ap (λ (s : State). s.shape) (sym is) ∙ shape ∙ ap (λ (x : NamedLines). map length x) (sym named);
+      ids = own_ids layout text script (refused_as_ok (λ fault. refusals.Script fault) (script_of layout text) script read);
+    }

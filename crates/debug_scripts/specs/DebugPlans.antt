@@ -2,6 +2,7 @@
 use Rattle.std.specs.Prelude.{◌≡◌, ℕ, true, Result, Ok, Err, List, [], ◌∷◌, length, map}
 use Rattle.lines_layout.specs.Layouts.{NamedLines}
 use Rattle.machine.specs.State.{State}
+use Rattle.isa.specs.Objects.{Object}
 use Rattle.machine.specs.Objects.{opening}
 use Rattle.debugger.specs.Notes.{meaning}
 use Rattle.debugger.specs.Stops.{Armed, armed}
@@ -11,10 +12,14 @@ use Rattle.debug_scripts.specs.declared.orders.StopOrder.{StopOrder}
 use Rattle.debug_scripts.specs.declared.orders.WatchOrder.{WatchOrder}
 use Rattle.debug_scripts.specs.Scripts.{Script, HasOwnIds, script_work}
 use Rattle.debug_scripts.specs.DebugReports.{debug_text, prepared}
+use Rattle.debug_scripts.specs.Replies.{Told, replies}
+use Rattle.debug_scripts.specs.declared.fault.PlayFault.{PlayFault}
+use Rattle.debug_scripts.specs.declared.fault.PlayFault.TheVariants as wants
 use Rattle.commands.specs.declared.fault.Fault.{Fault}
 use Rattle.commands.specs.declared.fault.Stage.TheVariants as stages
 use Rattle.commands.specs.declared.status.Status.{Status}
 use Rattle.commands.specs.declared.status.Status.TheVariants.{Done}
+use Rattle.commands.specs.Faults.{missing}
 use Rattle.commands.specs.Programs.{program_work}
 use Rattle.commands.specs.Serving.{Command, IsUntouched, ReadsSources, Report, Sources, Used, WritesOutcome}
 use Rattle.commands.specs.Works.{◌>>=◌, Makes, Work, work}
@@ -47,13 +52,50 @@ stop_ordered t = armed t.id t.cond
 abbrev pub watch_ordered : WatchOrder → Watch
 watch_ordered w = watch w.id (meaning [] (word_selection w.word))
 
+-- what its commands come to: the report is the print of that
+abbrev pub plan_replies : Plan → List Told
+plan_replies p = replies (prepared p.machine (map stop_ordered p.script.stops) (map watch_ordered p.script.watches)) p.script.commands
+
+-- the status for it, whatever it is, in each form of the report
+abbrev pub replies_status : List Told → Status
+replies_status told = Done
+
 -- the report of a plan
 abbrev pub debug_report : Plan → List ℕ
 debug_report p = debug_text p.layout (prepared p.machine (map stop_ordered p.script.stops) (map watch_ordered p.script.watches)) p.script.commands
 
 -- the same with the status for it
 abbrev pub played : Plan → Report
-played p = record { text = debug_report p; status = Done }
+played p = record { text = debug_report p; status = replies_status (plan_replies p) }
+
+-- the report that is this text
+abbrev pub text_report : List ℕ → Report
+text_report text = record { text = text; status = Done }
+
+-- what the commands of a plan come to, with stops and watchers that are at hand
+unfoldable pub played_work : Plan → Work (List Told)
+played_work p = record { told = Ok (plan_replies p); reached = stages.Machine ∷ stages.Session ∷ [] }
+
+-- the same with the stops and watchers made before: a stop has a copy of its condition
+unfoldable pub replies_work : Plan → Work (List Told)
+replies_work p = record { told = Ok (plan_replies p); reached = stages.Conditions ∷ stages.Machine ∷ stages.Session ∷ [] }
+
+-- what a script comes to on a program
+abbrev pub script_replies : Object → List ℕ → Work (List Told)
+script_replies object script = do
+  orders ← script_work object.layout script
+  made ← work stages.Machine (Ok (plan object.layout (opening object) orders))
+  replies_work made
+
+-- What a work found is what a page tells; or there is a fault in its place.
+abbrev pub Puts : {P : Type 0} → (P → List Told → Type 0) → Work (List Told) → P → Result (Unit {0}) Fault → Type 0
+Puts Tells work page (Ok done) = (told : List Told) × Makes work (Ok told) × Tells page told
+Puts Tells work page (Err fault) = Makes work (Err fault)
+
+-- what is missing, where memory was refused to this
+abbrev pub play_lack : PlayFault → Fault
+play_lack wants.Session = missing stages.Session
+play_lack wants.Report = missing stages.Machine
 
 -- a plan is played, with stops and watchers that are at hand
 unfoldable pub play_work : Plan → Work Report

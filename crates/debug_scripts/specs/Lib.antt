@@ -6,6 +6,7 @@ pub mod Grammar
 pub mod Pieces
 pub mod PlanCodes
 pub mod ReadRows
+pub mod Replies
 pub mod Rows
 pub mod ScriptCodes
 pub mod ScriptFaults

@@ -1,5 +1,5 @@
 -- A session's answers as text.
-use Rattle.std.specs.Prelude.{◌≡◌, ℕ, Bool, true, Result, Ok, Err, List, [], ◌++◌, length, codes, decimal, if◌then◌else◌, OnOk, String, string_bytes}
+use Rattle.std.specs.Prelude.{◌≡◌, ℕ, Bool, Result, Ok, Err, List, [], ◌++◌, length, codes, decimal, if◌then◌else◌, OnOk, String, string_bytes}
 use Rattle.std.specs.List.{flat_map}
 use Rattle.lines_layout.specs.Layouts.{NamedLines}
 use Rattle.machine.specs.RefusalTexts.{refusal_text}
@@ -16,12 +16,8 @@ use Rattle.pending_images.specs.Candidates.{candidates, count_of}
 use Rattle.pending_images.specs.declared.total.Count.{Count}
 use Rattle.pending_images.specs.declared.total.Count.TheVariants.{Number, More}
 use Rattle.debug_scripts.specs.Asked.{Asked}
-use Rattle.debug_scripts.specs.declared.fault.PlayFault.{PlayFault}
-use Rattle.debug_scripts.specs.declared.fault.PlayFault.TheVariants as wants
-use Rattle.debug_scripts.specs.declared.reply.Reply.{Reply}
-use Rattle.debug_scripts.specs.declared.reply.Reply.TheVariants.{Gathered, Halted, Gone, Taken, Shown, Listed, Valued}
 use Rattle.commands.specs.ImageTexts.{candidates_text, images_text}
-use Rattle.commands.specs.StateTexts.{end_of_line, state_text}
+use Rattle.commands.specs.StateTexts.{end_of_line}
 use Rattle.lines_layout.specs.Names.{Text}
 use Rattle.commands.specs.SeenTexts.{seen_text}
 
@@ -38,13 +34,6 @@ IsMade (Stop id after) = Unit {0}
 IsMade (Refused at refusal) = Unit {0}
 IsMade (NoMemory at) = ⊥
 IsMade End = Unit {0}
-
--- what memory was refused to, where a halt has no line: the session, if that is the halt, otherwise the report
-abbrev pub halt_want : Halt → PlayFault
-halt_want (Stop id after) = wants.Report
-halt_want (Refused at refusal) = wants.Report
-halt_want (NoMemory at) = wants.Session
-halt_want End = wants.Report
 
 -- a fault of a session
 abbrev pub fault_line : SessionFault → Text
@@ -81,36 +70,6 @@ values_text values = flat_map value_line values ++ codes "values " ++ decimal (l
 -- the values that are asked of a state
 abbrev pub asked_text : State → Asked → Text
 asked_text s asked = values_text (values_of s asked.given asked.word)
-
--- the answer to a command, in the state after it
-abbrev pub reply_text : NamedLines → State → Reply → Text
-reply_text names s (Gathered is_kept) = []
-reply_text names s (Halted halt) = halt_line halt
-reply_text names s (Gone n gone) = back_text n gone
-reply_text names s (Taken is_taken) = taken_line is_taken
-reply_text names s Shown = state_text names s
-reply_text names s Listed = found_text s
-reply_text names s (Valued order) = asked_text s order.now
-
--- an answer other than out of memory
-abbrev pub IsAnswered : Reply → Type 0
-IsAnswered (Gathered is_kept) = is_kept ≡ true
-IsAnswered (Halted halt) = IsMade halt
-IsAnswered (Gone n gone) = Unit {0}
-IsAnswered (Taken is_taken) = Unit {0}
-IsAnswered Shown = Unit {0}
-IsAnswered Listed = Unit {0}
-IsAnswered (Valued order) = Unit {0}
-
--- what memory was refused to, where the answer to a command has no text
-abbrev pub reply_want : Reply → PlayFault
-reply_want (Gathered is_kept) = if is_kept then wants.Report else wants.Session
-reply_want (Halted halt) = halt_want halt
-reply_want (Gone n gone) = wants.Report
-reply_want (Taken is_taken) = wants.Report
-reply_want Shown = wants.Report
-reply_want Listed = wants.Report
-reply_want (Valued order) = wants.Report
 
 -- a note: its number, and what the step showed
 abbrev pub note_line : NamedLines → Note → Text

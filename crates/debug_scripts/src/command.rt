@@ -8,13 +8,19 @@ ghost use Rattle.debugger.specs.Sessions.{watch};
 ghost use Rattle.commands.specs.Devices.{CanCountOneMore};
 ghost use Rattle.commands.specs.Serving.{MakesReport, Serves, used};
 ghost use Rattle.commands.specs.Works.{Makes};
-ghost use Rattle.debug_scripts.specs.DebugPlans.{debug_command, orders_work, stop_ordered, watch_ordered};
+ghost use Rattle.debug_scripts.specs.DebugPlans.{IsPlan, Puts, debug_command, orders_work, plan, replies_work, script_replies, stop_ordered, watch_ordered};
 
-use crate::orders::WatchOrder;
-use crate::plan::{DebugPlan, plan_of, report_of};
-use commands::{Fault, Report, Sink, Source, Sources, Stage, Status, read_sources, write_report};
+use crate::lines::Lines;
+use crate::orders::{Script, WatchOrder};
+use crate::plan::{DebugPlan, plan_of, put_played, report_in};
+use crate::reply::Form;
+use crate::script::read_script;
+use commands::{
+    Fault, Report, Sink, Source, Sources, Stage, Status, load, read_sources, write_report,
+};
 use debugger::{Attached, Stop, Watcher, WordWatch};
 use images::{Cond, holds};
+use isa::Object;
 use machine::Machine;
 use std::alloc::{AllocError, Global};
 
@@ -40,42 +46,60 @@ fn attached(order: WatchOrder, watcher: Box<dyn Watcher>) -> Attached
     }
 }
 
-/// The report of a plan, played with the watchers that its script orders and with these stops, which have the ids and
-/// conditions of the plan's, in order.
+/// Puts on an empty page what the commands of a script come to, with the watchers that it orders and with these stops, which
+/// have the ids and conditions of the script's, in order. The form names the machine's words.
 ///
 /// # Errors
 ///
-/// As of [`report_plan`].
-fn report_stopped(alloc: Global, made: DebugPlan, stops: Vec<Stop>) -> Result<Report, Fault>
-    requires { map (λ t. armed t.id t.cond) stops.items ≡ map stop_ordered made.script.stops }
-    ensures { Makes (orders_work made) result }
+/// As of [`put_plan`].
+fn put_stopped<P, F: Form<P>>(
+    alloc: Global,
+    form: &F,
+    page: &mut P,
+    machine: Machine,
+    script: &Script,
+    stops: Vec<Stop>,
+) -> Result<(), Fault>
+    requires empty { F.Tells form.now page.old [] }
+    requires plan { IsPlan (plan (F.names form.now) machine script.now) }
+    requires stops { map (λ t. armed t.id t.cond) stops.items ≡ map stop_ordered script.now.stops }
+    ensures { Puts (F.Tells form.now) (replies_work (plan (F.names form.now) machine script.now)) page.new result }
 {
     let mut watchers = Vec::new(alloc);
-    for order in made.watches() {
+    for order in &script.watches {
         let Ok(watcher) = Box::new(alloc, WordWatch::new(alloc, order.word)) else {
-            drop(made);
+            drop(machine);
             return Err(Stage::Session.missing());
         };
         let Ok(()) = watchers.push(attached(*order, watcher)) else {
-            drop(made);
+            drop(machine);
             return Err(Stage::Session.missing());
         };
     }
-    report_of(alloc, made, stops, watchers)
+    put_played(alloc, form, page, machine, script, stops, watchers)
 }
 
-/// The report of a plan, played with the stops and the watchers that its script orders.
+/// Puts on an empty page what the commands of a script come to, with the stops and the watchers that it orders. The form names
+/// the machine's words.
 ///
 /// # Errors
 ///
 /// Out of memory, as that of a condition, of a session or of the machine.
-fn report_plan(alloc: Global, made: DebugPlan) -> Result<Report, Fault>
-    ensures { Makes (orders_work made) result }
+fn put_plan<P, F: Form<P>>(
+    alloc: Global,
+    form: &F,
+    page: &mut P,
+    machine: Machine,
+    script: &Script,
+) -> Result<(), Fault>
+    requires empty { F.Tells form.now page.old [] }
+    requires plan { IsPlan (plan (F.names form.now) machine script.now) }
+    ensures { Puts (F.Tells form.now) (replies_work (plan (F.names form.now) machine script.now)) page.new result }
 {
     let mut stops = Vec::new(alloc);
-    for order in made.stops() {
+    for order in &script.stops {
         let Ok((asked, cond)) = copies(alloc, &order.cond) else {
-            drop(made);
+            drop(machine);
             return Err(Stage::Conditions.missing());
         };
         let Ok(test) = Box::new(
@@ -84,15 +108,66 @@ fn report_plan(alloc: Global, made: DebugPlan) -> Result<Report, Fault>
                 ensures { result ≡ holds_in machine.now asked }
             { holds(&asked, &machine.view()) },
         ) else {
-            drop(made);
+            drop(machine);
             return Err(Stage::Session.missing());
         };
         let Ok(()) = stops.push(Stop::new(order.id, cond, test)) else {
-            drop(made);
+            drop(machine);
             return Err(Stage::Session.missing());
         };
     }
-    report_stopped(alloc, made, stops)
+    put_stopped(alloc, form, page, machine, script, stops)
+}
+
+/// Plays a script on the machine of a program, and puts on an empty page what it comes to. The form names the program's words.
+///
+/// # Errors
+///
+/// A fault of the script; out of memory, as that of any stage that is reached.
+#[tactic(auto, using(commands::proofs::WorksInTurn::turns))]
+pub fn put_script<P, F: Form<P>>(
+    alloc: Global,
+    form: &F,
+    page: &mut P,
+    object: &Object,
+    script: &[u8],
+) -> Result<(), Fault>
+    requires empty { F.Tells form.now page.old [] }
+    requires names { F.names form.now ≡ object.now.layout }
+    ensures { Puts (F.Tells form.now) (script_replies object.now script.now) page.new result }
+{
+    let script = read_script(alloc, object.layout(), script)?;
+    let done = match load(alloc, object) {
+        Ok(machine) => put_plan(alloc, form, page, machine, &script),
+        Err(fault) => Err(fault),
+    };
+    drop(script);
+    done
+}
+
+/// The report of a plan, played with the stops and the watchers that its script orders.
+///
+/// # Errors
+///
+/// As of [`put_plan`].
+fn report_plan(alloc: Global, made: DebugPlan) -> Result<Report, Fault>
+    ensures { Makes (orders_work made) result }
+{
+    let DebugPlan {
+        object,
+        machine,
+        script,
+    } = made;
+    let lines = Lines {
+        layout: object.layout(),
+    };
+    let mut text = String::new(alloc);
+    let told = put_plan(alloc, &lines, &mut text, machine, &script);
+    drop((object, script));
+    match told {
+        Ok(()) => Ok(report_in(text)),
+        Err(fault) => Err(fault),
+    }
 }
 
 /// The report of `debug`.

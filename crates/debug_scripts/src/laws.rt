@@ -1,14 +1,16 @@
 //! Laws of scripts. Each function states one by its contract, and does nothing.
 ghost use Rattle.std.specs.Prelude.{◌≡◌, ℕ, Result};
+ghost use Rattle.std.specs.List.{flat_map};
 ghost use Rattle.lines_layout.specs.Layouts.{NamedLines};
 ghost use Rattle.machine.specs.declared.refusal.Refusal.{Refusal};
 ghost use Rattle.debugger.specs.declared.halt.Halt.TheVariants.{End, Refused, Stop};
 ghost use Rattle.commands.specs.Serving.{Serves, Used};
 ghost use Rattle.commands.specs.declared.fault.Fault.{Fault};
 ghost use Rattle.commands.specs.declared.status.Status.{Status};
-ghost use Rattle.debug_scripts.specs.DebugPlans.{Plan, PlaysIfMade, ReadsPlan, debug_command};
+ghost use Rattle.debug_scripts.specs.DebugPlans.{Plan, PlaysIfMade, ReadsPlan, debug_command, debug_report, plan_replies};
 ghost use Rattle.debug_scripts.specs.declared.orders.Command.TheVariants.{Continue, Go};
 ghost use Rattle.debug_scripts.specs.DebugReports.{LosesNoStep, LosesStep, Stand, WhereHalted, follow, without_rest};
+ghost use Rattle.debug_scripts.specs.Replies.{told_text};
 ghost use Rattle.debug_scripts.specs.Scripts.{HasOwnIds, IsReadAs, IsRefusedAs, Whenever};
 ghost use Rattle.debug_scripts.specs.Grammar.{IsScript};
 ghost use Rattle.debug_scripts.specs.ScriptFaults.{IsFault};
@@ -39,6 +41,11 @@ pub fn stops_lose_no_step()
     ensures ended { WhereHalted End LosesNoStep }
     ensures refused { (n : ℕ) (refusal : Refusal) → WhereHalted (Refused n refusal) (LosesStep n) }
     ensures go { (names : NamedLines) (s : Stand) → follow names s Go ≡ follow names (without_rest s) Continue }
+{}
+
+/// The report of a plan is the texts of what its commands come to, one after another. Of that each other form is made, too.
+pub fn reports_are_replies()
+    ensures { (p : Plan) → debug_report p ≡ flat_map (told_text p.layout) (plan_replies p) }
 {}
 
 /// [`crate::debug_read`], and then [`crate::debug_run`] of the plan that it made, do what the command `debug` does.

@@ -1,16 +1,18 @@
 //! What a script asks of a program's machine: both are read, and then the script's commands are played.
-ghost use Rattle.std.specs.Prelude.{◌≡◌, map, Ok};
+ghost use Rattle.std.specs.Prelude.{◌≡◌, [], map, string_bytes, Ok};
 ghost use Rattle.commands.specs.Devices.{CanCountOneMore};
 ghost use Rattle.commands.specs.Serving.{used};
 ghost use Rattle.machine.specs.Objects.{opening};
 ghost use Rattle.commands.specs.Works.{Makes, work};
 ghost use Rattle.commands.specs.declared.fault.Stage.TheVariants as stages;
 ghost use Rattle.debug_scripts.specs.Scripts.{HasOwnIds};
-ghost use Rattle.debug_scripts.specs.DebugPlans.{plan, plan_work, play_work, stop_ordered, watch_ordered, PlaysPlan, ReadsPlan};
+ghost use Rattle.debug_scripts.specs.DebugPlans.{plan, plan_work, play_lack, play_work, played_work, stop_ordered, text_report, watch_ordered, IsPlan, PlaysPlan, Puts, ReadsPlan};
 ghost use Rattle.debugger.specs.Values.{stops_armed, watches_by};
 
 use crate::fault::PlayFault;
+use crate::lines::Lines;
 use crate::orders::{Script, StopOrder, WatchOrder};
+use crate::reply::Form;
 use crate::script::read_script;
 use crate::session::play;
 use commands::{
@@ -25,9 +27,9 @@ use std::marker::Model;
 /// What a script asks of the machine of a program, which is in its opening state.
 #[derive(Drop)]
 pub struct DebugPlan {
-    object: Object,
-    machine: Machine,
-    script: Script,
+    pub(crate) object: Object,
+    pub(crate) machine: Machine,
+    pub(crate) script: Script,
 }
 
 impl Model for DebugPlan {
@@ -115,8 +117,62 @@ pub fn debug_read<P: Source, S: Source>(
     plan_of(alloc, &sources.program, &sources.steps)
 }
 
+/// What is missing, where memory was refused to this.
+pub(crate) fn lack_of(fault: PlayFault) -> Fault
+    ensures { result ≡ play_lack fault }
+{
+    match fault {
+        PlayFault::Session => Stage::Session.missing(),
+        PlayFault::Report => Stage::Machine.missing(),
+    }
+}
+
+/// Puts on an empty page what the commands of a script come to, on a session with these stops and watchers. They have the ids
+/// and conditions of the script's, in order, and the ids and words of its watches.
+///
+/// # Errors
+///
+/// Out of memory, as that of the session or of the machine.
+pub(crate) fn put_played<P, F: Form<P>>(
+    alloc: Global,
+    form: &F,
+    page: &mut P,
+    machine: Machine,
+    script: &Script,
+    stops: Vec<Stop>,
+    watchers: Vec<Attached>,
+) -> Result<(), Fault>
+    requires empty { F.Tells form.now page.old [] }
+    requires plan { IsPlan (plan (F.names form.now) machine script.now) }
+    requires stops { stops_armed stops.items ≡ map stop_ordered script.now.stops }
+    requires watchers { watches_by meaning_of watchers.items ≡ map watch_ordered script.now.watches }
+    ensures { Puts (F.Tells form.now) (played_work (plan (F.names form.now) machine script.now)) page.new result }
+{
+    match play(
+        alloc,
+        form,
+        page,
+        machine,
+        stops,
+        watchers,
+        &script.commands,
+    ) {
+        Ok(()) => Ok(()),
+        Err(fault) => Err(lack_of(fault)),
+    }
+}
+
+/// The report that is this text.
+pub(crate) fn report_in(text: String) -> Report
+    ensures { result ≡ text_report (string_bytes text) }
+{
+    Report {
+        text: text.into_bytes(),
+        status: Status::Done,
+    }
+}
+
 /// The report of a plan, played on a session with these stops and watchers.
-#[tactic(auto, unfolding(commands::specs::Works::Makes, crate::specs::DebugPlans::play_work))]
 pub(crate) fn report_of(
     alloc: Global,
     made: DebugPlan,
@@ -132,22 +188,15 @@ pub(crate) fn report_of(
         machine,
         script,
     } = made;
-    let text = play(
-        alloc,
-        object.layout(),
-        machine,
-        stops,
-        watchers,
-        &script.commands,
-    );
+    let lines = Lines {
+        layout: object.layout(),
+    };
+    let mut text = String::new(alloc);
+    let told = put_played(alloc, &lines, &mut text, machine, &script, stops, watchers);
     drop((object, script));
-    match text {
-        Ok(text) => Ok(Report {
-            text: text.into_bytes(),
-            status: Status::Done,
-        }),
-        Err(PlayFault::Session) => Err(Stage::Session.missing()),
-        Err(PlayFault::Report) => Err(Stage::Machine.missing()),
+    match told {
+        Ok(()) => Ok(report_in(text)),
+        Err(fault) => Err(fault),
     }
 }
 

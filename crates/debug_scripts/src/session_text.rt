@@ -1,38 +1,30 @@
 //! The text of a session's answers, and of its watchers' notes.
-ghost use Rattle.std.specs.Prelude.{◌≡◌, IfErr, OnOk, length, map};
+ghost use Rattle.std.specs.Prelude.{◌≡◌, length, map};
 ghost use Rattle.std.specs.List.{flat_map};
-ghost use Rattle.commands.specs.StateTexts.{state_text};
 ghost use Rattle.debugger.specs.Sessions.{watch};
-ghost use Rattle.debug_scripts.specs.SessionTexts.{IsAnswered, IsMade, Writes, asked_text, back_text, found_text, halt_line, halt_want, note_line, noted_text, reply_text, reply_want, taken_line, value_line, values_text, watch_text};
+ghost use Rattle.debug_scripts.specs.Replies.{told_by, told_text};
+ghost use Rattle.debug_scripts.specs.SessionTexts.{Writes, asked_text, back_text, found_text, halt_line, note_line, noted_text, taken_line, value_line, values_text, watch_text};
 ghost use Rattle.debugger.specs.Values.{watch_by, watches_by};
 
-use crate::fault::PlayFault;
 use crate::orders::ValuesOrder;
 use crate::reply::Reply;
 use commands::{push_candidates, push_images, push_seen, push_state};
-use debugger::{Attached, Halt, Note, SessionFault, Watcher};
+use debugger::{Attached, Halt, Note, Past, SessionFault, Watcher};
 use images::{Count, count, list, values_of};
 use lines_layout::Layout;
 use machine::View;
 use std::alloc::{AllocError, Global};
 
-/// Appends the line of a halt, other than out of memory.
-///
-/// # Errors
-///
-/// [`PlayFault::Session`] exactly when it is out of memory.
-fn push_halt(text: &mut String, halt: Halt) -> Result<(), PlayFault>
-    ensures text { Writes text.old result text.new (halt_line halt) }
-    ensures made { OnOk result (IsMade halt) }
-    ensures want { IfErr result (λ fault. fault ≡ halt_want halt) }
+/// Appends the line of a halt; out of memory has none.
+fn push_halt(text: &mut String, halt: Halt) -> Result<(), AllocError>
+    ensures { Writes text.old result text.new (halt_line halt) }
 {
     match halt {
-        Halt::Stop(id, after) => writeln!(text, "stop {id} {after}")?,
-        Halt::Refused(at, refusal) => writeln!(text, "refused {at} {refusal}")?,
-        Halt::NoMemory(_) => return Err(PlayFault::Session),
-        Halt::End => writeln!(text, "end")?,
+        Halt::Stop(id, after) => writeln!(text, "stop {id} {after}"),
+        Halt::Refused(at, refusal) => writeln!(text, "refused {at} {refusal}"),
+        Halt::NoMemory(_) => Ok(()),
+        Halt::End => writeln!(text, "end"),
     }
-    Ok(())
 }
 
 /// Appends how going back went.
@@ -60,26 +52,9 @@ fn push_taken(text: &mut String, is_taken: bool) -> Result<(), AllocError>
     }
 }
 
-/// Appends the text of a state.
-fn push_shown(text: &mut String, view: &View<'_>, layout: &Layout) -> Result<(), PlayFault>
-    requires { view.now.shape ≡ map length layout.now }
-    ensures text { Writes text.old result text.new (state_text layout.now view.now) }
-    ensures want { IfErr result (λ fault. fault ≡ PlayFault.Report) }
-{
-    match push_state(text, view, layout) {
-        Ok(()) => Ok(()),
-        Err(_) => Err(PlayFault::Report),
-    }
-}
-
 /// Appends how many candidates a state has, and then its images, unless there are more candidates than are counted.
-///
-/// # Errors
-///
-/// [`PlayFault::Report`], also where memory is refused to the list of the images.
-fn push_found(alloc: Global, text: &mut String, view: &View<'_>) -> Result<(), PlayFault>
-    ensures text { Writes text.old result text.new (found_text view.now) }
-    ensures want { IfErr result (λ fault. fault ≡ PlayFault.Report) }
+fn push_found(alloc: Global, text: &mut String, view: &View<'_>) -> Result<(), AllocError>
+    ensures { Writes text.old result text.new (found_text view.now) }
 {
     let Some(countable) = count(view) else {
         push_candidates(text, Count::More)?;
@@ -87,8 +62,7 @@ fn push_found(alloc: Global, text: &mut String, view: &View<'_>) -> Result<(), P
     };
     push_candidates(text, Count::Number(countable.number()))?;
     let images = list(alloc, &countable)?;
-    push_images(text, &images)?;
-    Ok(())
+    push_images(text, &images)
 }
 
 /// Appends a line for each value.
@@ -110,55 +84,16 @@ fn push_valued(text: &mut String, values: &[u64]) -> Result<(), AllocError>
 }
 
 /// Appends the values that are asked of a state.
-///
-/// # Errors
-///
-/// [`PlayFault::Report`], also where memory is refused to the list of the values.
 fn push_asked(
     alloc: Global,
     text: &mut String,
     view: &View<'_>,
     order: &ValuesOrder,
-) -> Result<(), PlayFault>
-    ensures text { Writes text.old result text.new (asked_text view.now order.now) }
-    ensures want { IfErr result (λ fault. fault ≡ PlayFault.Report) }
+) -> Result<(), AllocError>
+    ensures { Writes text.old result text.new (asked_text view.now order.now) }
 {
     let values = values_of(alloc, view, &order.given, order.word)?;
-    push_valued(text, &values)?;
-    Ok(())
-}
-
-/// Appends the text of an answer to a command, other than out of memory.
-///
-/// # Errors
-///
-/// [`PlayFault::Session`] exactly when it is out of memory.
-pub(crate) fn push_reply(
-    alloc: Global,
-    text: &mut String,
-    reply: &Reply<'_>,
-    view: &View<'_>,
-    layout: &Layout,
-) -> Result<(), PlayFault>
-    requires { view.now.shape ≡ map length layout.now }
-    ensures text { Writes text.old result text.new (reply_text layout.now view.now reply.now) }
-    ensures answered { OnOk result (IsAnswered reply.now) }
-    ensures want { IfErr result (λ fault. fault ≡ reply_want reply.now) }
-{
-    match *reply {
-        Reply::Gathered(is_kept) => {
-            if !is_kept {
-                return Err(PlayFault::Session);
-            }
-        }
-        Reply::Halted(halt) => push_halt(text, halt)?,
-        Reply::Gone(count, gone) => push_back(text, count, gone)?,
-        Reply::Taken(is_taken) => push_taken(text, is_taken)?,
-        Reply::Shown => push_shown(text, view, layout)?,
-        Reply::Listed => push_found(alloc, text, view)?,
-        Reply::Valued(order) => push_asked(alloc, text, view, order)?,
-    }
-    Ok(())
+    push_valued(text, &values)
 }
 
 /// Appends the line of a note.
@@ -186,6 +121,30 @@ fn push_noted(text: &mut String, layout: &Layout, id: u32, notes: &[Note]) -> Re
 {
     writeln!(text, "watch {id} {}", notes.len())?;
     push_notes(text, layout, notes)
+}
+
+/// Appends the text of a reply. The session has been through this.
+pub(crate) fn push_reply(
+    alloc: Global,
+    text: &mut String,
+    layout: &Layout,
+    reply: &Reply<'_>,
+    past: &Past,
+) -> Result<(), AllocError>
+    requires { past.now.state.shape ≡ map length layout.now }
+    ensures { Writes text.old result text.new (told_text layout.now (told_by past.now reply.now)) }
+{
+    let view = past.machine().view();
+    match *reply {
+        Reply::Kept => Ok(()),
+        Reply::Went(halt, _) | Reply::WentOn(halt, _) => push_halt(text, halt),
+        Reply::WentBack(count, gone) => push_back(text, count, gone),
+        Reply::Shown => push_state(text, &view, layout),
+        Reply::Listed => push_found(alloc, text, &view),
+        Reply::Valued(order) => push_asked(alloc, text, &view, order),
+        Reply::Disarmed(_, is_taken) | Reply::Detached(_, is_taken) => push_taken(text, is_taken),
+        Reply::Noted(id, notes) => push_noted(text, layout, id, notes),
+    }
 }
 
 /// Appends a watcher's id, the count of its notes, and these.

@@ -72,10 +72,10 @@ same_parts a b (inr apart) r k = inr (λ e. apart (ap (λ (s : Site). s.processo
 same_parts a b (inl p) (inr apart) k = inr (λ e. apart (ap (λ (s : Site). s.recovering) e))
 same_parts a b (inl p) (inl r) (inr apart) = inr (λ e. apart (ap (λ (s : Site). s.place) e))
 
-same_site : (a b : Site) → (a ≡ b) ⊎ (a ≢ b)
+pub same_site : (a b : Site) → (a ≡ b) ⊎ (a ≢ b)
 same_site a b = same_parts a b (cases_eq a.processor b.processor) (same_flag a.recovering b.recovering) (cases_eq a.place b.place)
 
-neither : (x s : Site) (xs : List Site) → x ≢ s → (In s xs → ⊥) → In s (x ∷ xs) → ⊥
+pub neither : (x s : Site) (xs : List Site) → x ≢ s → (In s xs → ⊥) → In s (x ∷ xs) → ⊥
 neither x s xs other away (inl e) = other e
 neither x s xs other away (inr is) = away is
 

@@ -10,4 +10,6 @@ pub mod WeakerOnesGoOn
 pub mod NeedsAreSo
 pub mod FewerAtSites
 pub mod NoMoreCanGo
+pub mod NoLargerNumberCanGo
+pub mod ChoicesAreTried
 pub mod WeakerOnesAreSo

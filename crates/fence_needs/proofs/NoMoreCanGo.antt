@@ -1,15 +1,14 @@
 -- What stays cannot go too.
-use Rattle.std.proofs.Common.{◌≡◌, ◌≢◌, ℕ, zero, suc, ◌⊎◌, Bool, true, false, true≢false, Some, List, [], ◌∷◌, ◌++◌, take, refl, sym, ap, subst, ◌∙◌, inl, inr}
-use Rattle.std.specs.Prelude.{Contains, ◌&&◌, slice_get}
+use Rattle.std.proofs.Common.{◌≡◌, ◌≢◌, ℕ, zero, suc, ◌⊎◌, Bool, true, true≢false, Some, List, [], ◌∷◌, ◌++◌, take, refl, sym, ap, subst, ◌∙◌, inl, inr}
+use Rattle.std.specs.Prelude.{Contains, slice_get}
 use Rattle.std.specs.List.{list_all}
 use Rattle.std.proofs.lemmas.Bool.{and_parts}
-use Rattle.isa.specs.declared.instr.Instr.{Instr}
 use Rattle.isa.specs.Objects.{Object}
 use Rattle.machine.specs.Objects.{IsLoadable}
 use Rattle.image_reasons.specs.declared.entries.Site.{Site}
 use Rattle.explore.specs.declared.question.Question.{Question}
 use Rattle.verdicts.specs.Verdicts.{IsBrokenBy}
-use Rattle.fewer_fences.specs.Thinner.{AreFewer, may_be_nop}
+use Rattle.fewer_fences.specs.Thinner.{may_be_nop}
 use Rattle.fewer_fences.proofs.QuestionsKept.{broken_too}
 use Rattle.fence_needs.specs.declared.need.Need.{Need}
 use Rattle.fence_needs.specs.declared.need.Need.TheVariants.{Needed, LeftOut, Kept, Untold, KeptUntold}
@@ -138,10 +137,10 @@ module _ (question : Question) (limit : ℕ) (object : Object) (needs : List Sit
 
     -- ---- all
 
-    settled_at : no_more_can_go needs ≡ true → (i : ℕ) (one : SiteNeed) → slice_get needs i ≡ Some one → (is_told one.need ≡ true) × (may_be_nop one.instr ≡ true)
+    pub settled_at : no_more_can_go needs ≡ true → (i : ℕ) (one : SiteNeed) → slice_get needs i ≡ Some one → (is_told one.need ≡ true) × (may_be_nop one.instr ≡ true)
     settled_at settled i one there = and_parts (is_told one.need) (may_be_nop one.instr) (all_at is_settled needs i one settled there)
 
-    fence_named : no_more_can_go needs ≡ true → (s : Site) → is_fence (instr_at object s) ≡ true → may_be_nop (instr_at object s) ≡ true
+    pub fence_named : no_more_can_go needs ≡ true → (s : Site) → is_fence (instr_at object s) ≡ true → may_be_nop (instr_at object s) ≡ true
     fence_named settled s is =
         let (i, one, there, same) = has question limit object needs are s is in
         ap (λ (s : Site). may_be_nop (instr_at object s)) (sym same)

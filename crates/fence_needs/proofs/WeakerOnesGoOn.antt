@@ -1,5 +1,5 @@
 -- What is said of one weaker instruction after another, put together.
-use Rattle.std.proofs.Common.{◌≡◌, ℕ, true, Option, Some, None, Ok, List, [], ◌∷◌, ◌++◌, append_assoc, refl, sym, ap, subst, ◌∙◌, inl, inr}
+use Rattle.std.proofs.Common.{◌≡◌, ℕ, true, Option, Some, None, List, [], ◌∷◌, ◌++◌, append_assoc, refl, sym, ap, subst, ◌∙◌}
 use Rattle.std.specs.Prelude.{length, map}
 use Rattle.std.proofs.lemmas.List.{append-nil}
 use Rattle.lines_layout.specs.Layouts.{NamedLines}

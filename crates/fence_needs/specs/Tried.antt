@@ -1,5 +1,5 @@
 -- What is found of flushes and fences on the way: of each alone, of one more behind those that are left out, and of a weaker one.
-use Rattle.std.specs.Prelude.{◌≡◌, ℕ, Option, Some, None, List, []}
+use Rattle.std.specs.Prelude.{◌≡◌, ◌⊎◌, ℕ, ◌+◌, ◌<◌, Bool, true, false, Option, Some, None, List, []}
 use Rattle.std.specs.List.{AllZip}
 use Rattle.isa.specs.declared.instr.Instr.{Instr}
 use Rattle.isa.specs.Objects.{Object}
@@ -11,6 +11,7 @@ use Rattle.fence_needs.specs.declared.need.Need.TheVariants.{Needed, LeftOut, Ke
 use Rattle.fence_needs.specs.declared.need.SiteNeed.{SiteNeed}
 use Rattle.fence_needs.specs.declared.need.Weaker.{Weaker}
 use Rattle.fence_needs.specs.Changes.{without, without_all}
+use Rattle.fence_needs.specs.Least.{EachChoiceBreaks, SomeChoiceMayHold, choices}
 use Rattle.fence_needs.specs.Needs.{AreNeedsBehind, IsNeed, what_stays, with_left_out}
 use Rattle.fence_needs.specs.Sites.{instr_at, sites_of}
 use Rattle.fence_needs.specs.Weakened.{IsWeakened, weakened_at}
@@ -60,3 +61,9 @@ pub record AreFound (question : Question) (limit : ℕ) (object : Object) (needs
 abbrev pub IsTriedIn : Question → ℕ → Object → Site → Option Instr → Object → Option Weaker → Type 0
 IsTriedIn question limit program site weaker new said =
     IsWeakened question limit program site weaker said × (new ≡ weakened_at program site said)
+
+-- Choices of so many of these sites were tried on a program, of which at most `old` more were to be tried, and then at most `new`: each breaks what
+-- is asked; or some may not, or there are more of them.
+abbrev pub AreTried : Question → ℕ → Object → ℕ → List Site → ℕ → ℕ → Bool → Type 0
+AreTried question limit object n sites old new true = EachChoiceBreaks question object n sites × (old ≡ choices n sites + new)
+AreTried question limit object n sites old new false = SomeChoiceMayHold question limit object n sites ⊎ (old < choices n sites)

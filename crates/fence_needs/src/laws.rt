@@ -1,5 +1,5 @@
 //! What a list of needs says of a program, and what a program without an instruction is. Each function states some by its contract, and does nothing.
-ghost use Rattle.std.specs.Prelude.{◌≡◌, ◌≢◌, ◌++◌, ℕ, None, Some, List, [], ◌∷◌, slice_get, take, true};
+ghost use Rattle.std.specs.Prelude.{◌≡◌, ◌≢◌, ◌++◌, ℕ, suc, None, Some, List, [], ◌∷◌, length, slice_get, take, true};
 ghost use Rattle.isa.specs.declared.instr.Instr.{Instr};
 ghost use Rattle.isa.specs.declared.instr.Instr.TheVariants.{Nop};
 ghost use Rattle.isa.specs.Objects.{IsObject, Object};
@@ -14,7 +14,7 @@ ghost use Rattle.fence_needs.specs.declared.need.SiteNeed.{SiteNeed};
 ghost use Rattle.fence_needs.specs.declared.need.Weaker.{Weaker};
 ghost use Rattle.fence_needs.specs.declared.need.WeakerSaid.TheVariants.{Does, DoesNot, NotKnown};
 ghost use Rattle.fence_needs.specs.Changes.{IsAPlace, LengthsStay, MayStandIn, OthersStay, ProcessorsStay, WordsStay, replaced, without, without_all};
-ghost use Rattle.fence_needs.specs.Least.{CannotGo, LeftOutAreNamed, NoMoreCanGo, is_told, no_more_can_go};
+ghost use Rattle.fence_needs.specs.Least.{CannotGo, EachChoiceBreaks, IsMost, LeftOutAreNamed, NoMoreCanGo, is_told, no_more_can_go, spare};
 ghost use Rattle.fence_needs.specs.Listed.{ListsEachOnce};
 ghost use Rattle.fence_needs.specs.Needs.{AreNeeds, left_out, what_stays};
 ghost use Rattle.fence_needs.specs.Sites.{ListsFences, instr_at};
@@ -81,11 +81,23 @@ pub fn what_stays_cannot_go()
 {}
 
 /// So no more can go than those that are left out, if all are told, and each flush names its word by its address: without all these and any more
-/// flushes and fences some run breaks what is asked. (Of no other program is it said. Others that are fewer may do.)
+/// flushes and fences some run breaks what is asked. (Others that are fewer may do.)
 pub fn no_more_can_go_than_is_left_out()
     ensures { (question : Question) (limit : ℕ) (object : Object) (needs : List SiteNeed)
         → IsLoadable object → AreNeeds question limit object needs → no_more_can_go needs ≡ true
         → NoMoreCanGo question object (left_out needs) }
+{}
+
+/// Nor can a larger number go, whichever they are, if so it is of each choice of one more of those without which alone what is asked holds: without
+/// these some run breaks it. There is no such choice where all of those are left out, and none is kept.
+pub fn no_larger_number_can_go()
+    ensures choices { (question : Question) (limit : ℕ) (object : Object) (needs : List SiteNeed)
+        → IsLoadable object → AreNeeds question limit object needs → no_more_can_go needs ≡ true
+        → EachChoiceBreaks question object (suc (length (left_out needs))) (spare needs)
+        → IsMost question object (length (left_out needs)) }
+    ensures none_kept { (question : Question) (limit : ℕ) (object : Object) (needs : List SiteNeed)
+        → IsLoadable object → AreNeeds question limit object needs → no_more_can_go needs ≡ true
+        → spare needs ≡ left_out needs → IsMost question object (length (left_out needs)) }
 {}
 
 /// What is said of a weaker one is so, in the program without all that are left out, and with those before it that do. It is the weaker one of

@@ -13,14 +13,17 @@
 //! the program [`replaced`] another instruction stands at a site, and all else is as it was; in [`without`] that is a nop
 //! (`one_instruction_is_changed`). If all are told, and no flush has its word from a register ([`no_more_can_go`]), no more can go than those
 //! that are left out: without these and any more some run breaks what is asked (`no_more_can_go_than_is_left_out`, by the law of
-//! `fewer_fences`). That others would not be more is not said, nor that no more could be made weaker: another order may do more.
+//! `fewer_fences`). And [`is_least`] says whether no larger number can go, whichever they are: where some are kept that could go
+//! alone, it tries each choice of one more of these than are left out (`no_larger_number_can_go`). That no more could be made weaker
+//! is not said: another order may do more.
 //! Definitions: `specs/Sites` (flushes and fences, and where they are), `Changes` (`replaced`, `without`), `Weakened`, `Needs`, `Least`
-//! (that no more can go), `Listed` (words of the laws); on the way `Tried`.
+//! (that no more can go, and no larger number), `Listed` (words of the laws); on the way `Tried`.
 #![tactic(auto)]
 
 mod all_needs;
 mod alone;
 mod change;
+mod choices;
 pub mod laws;
 mod least;
 mod need;
@@ -31,6 +34,7 @@ mod weaker;
 pub use all_needs::needs;
 pub use alone::need_of;
 pub use change::{replaced, without};
+pub use choices::{MOST_CHOICES, is_least};
 pub use least::no_more_can_go;
 pub use need::{Need, SiteNeed, Weaker, WeakerSaid};
 pub use site_list::{fences_of, instr_at, is_fence};

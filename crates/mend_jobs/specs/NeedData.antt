@@ -139,29 +139,32 @@ broken_data asked failure =
     run_data (asked_name failure.asked) (names_data asked.object.layout) (nums failure.values) (steps_data failure.run)
     (step_lines_data asked.lines failure.run (opening asked.object))
 
--- how the conditions stand, the names of the words, what is told of flushes and fences, how many of how many stay, and whether no more can go
-abbrev pub held_data : Tree → Tree → Tree → Tree → Tree → Tree → Tree
-held_data conditions words fences keep count no_more =
+-- how the conditions stand, the names of the words, what is told of flushes and fences, how many of how many stay, whether no more can go, and
+-- whether these are told to be the least number
+abbrev pub held_data : Tree → Tree → Tree → Tree → Tree → Tree → Tree → Tree
+held_data conditions words fences keep count no_more least =
     obj (header (codes "fences")
     ++ (codes "holds", boolean true) ∷ (codes "conditions", conditions) ∷ (codes "words", words)
-    ∷ (codes "fences", fences) ∷ (codes "keep", keep) ∷ (codes "of", count) ∷ (codes "no_more_can_go", no_more) ∷ [])
+    ∷ (codes "fences", fences) ∷ (codes "keep", keep) ∷ (codes "of", count) ∷ (codes "no_more_can_go", no_more)
+    ∷ (codes "least", least) ∷ [])
 
--- what holds, what is told of flushes and fences, how many of how many stay, and whether no more can go
-abbrev pub told_data : AskedProgram → Findings → List Tree → Tree → Tree → Tree → Tree
-told_data asked found fences keep count no_more =
-    held_data (conditions_data asked.question found) (names_data asked.object.layout) (list fences) keep count no_more
+-- what holds, what is told of flushes and fences, how many of how many stay, whether no more can go, and whether these are the least number
+abbrev pub told_data : AskedProgram → Findings → List Tree → Tree → Tree → Tree → Tree → Tree
+told_data asked found fences keep count no_more least =
+    held_data (conditions_data asked.question found) (names_data asked.object.layout) (list fences) keep count no_more least
 
 -- of each of them
-abbrev pub each_data : AskedProgram → Findings → List SiteNeed → Tree
-each_data asked found needs =
+abbrev pub each_data : AskedProgram → Findings → List SiteNeed → Bool → Tree
+each_data asked found needs least =
     told_data asked found (map (need_data (source_of asked)) needs) (num (kept needs)) (num (length needs)) (boolean (no_more_can_go needs))
+    (boolean least)
 
 -- of one alone
 abbrev pub one_data : AskedProgram → Findings → SiteNeed → Tree
-one_data asked found one = told_data asked found (said_data (source_of asked) one (alone_name one.need) ∷ []) null null null
+one_data asked found one = told_data asked found (said_data (source_of asked) one (alone_name one.need) ∷ []) null null null null
 
 -- all that is told
 abbrev pub fences_data : AskedProgram → FencesFound → Tree
 fences_data asked (Broken failure) = broken_data asked failure
-fences_data asked (Each found needs) = each_data asked found needs.items
+fences_data asked (Each found told) = each_data asked found told.needs.items told.least
 fences_data asked (One found one) = one_data asked found one

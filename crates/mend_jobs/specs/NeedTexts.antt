@@ -89,21 +89,23 @@ stays _ = true
 abbrev pub kept : List SiteNeed → ℕ
 kept needs = count_by (λ one. stays one.need) needs
 
--- that no more can go than those that are left out, if it is so
-abbrev pub no_more_text : Bool → Text
-no_more_text true = codes ", no more can go"
-no_more_text false = []
+-- that these are the least number, if it is said; otherwise that no more can go than those that are left out, if it is so
+abbrev pub least_text : Bool → Bool → Text
+least_text true no_more = codes ", least"
+least_text false true = codes ", no more can go"
+least_text false false = []
 
--- how many stay, and of how many; and that no more can go
-abbrev pub keep_line : List SiteNeed → Text
-keep_line needs = line (codes "keep " ++ decimal (kept needs) ++ codes " of " ++ decimal (length needs) ++ no_more_text (no_more_can_go needs))
+-- how many stay, and of how many; and that these are the least number, or that no more can go
+abbrev pub keep_line : List SiteNeed → Bool → Text
+keep_line needs least =
+    line (codes "keep " ++ decimal (kept needs) ++ codes " of " ++ decimal (length needs) ++ least_text least (no_more_can_go needs))
 
 -- a line for each, and how many stay
-abbrev pub needs_text : NamedLines → List SiteNeed → Text
-needs_text names needs = flat_map (need_line names) needs ++ keep_line needs
+abbrev pub needs_text : NamedLines → List SiteNeed → Bool → Text
+needs_text names needs least = flat_map (need_line names) needs ++ keep_line needs least
 
 -- all that is said: of a run that breaks a condition, as `check` says it; or what holds, and of each flush and fence; or of one alone
 abbrev pub fences_text : AskedProgram → FencesFound → Text
 fences_text asked (Broken failure) = failed_text failure
-fences_text asked (Each found needs) = held_text asked.question found ++ needs_text asked.object.layout needs.items
+fences_text asked (Each found told) = held_text asked.question found ++ needs_text asked.object.layout told.needs.items told.least
 fences_text asked (One found one) = alone_line asked.object.layout one

@@ -26,7 +26,7 @@ mod text_form;
 
 pub use asked_program::AskedProgram;
 pub use command::{fences, mend};
-pub use fences_found::FencesFound;
+pub use fences_found::{FencesFound, NeedsTold};
 pub use form::ReportsMends;
 pub use json_form::JsonReports;
 pub use mend_found::MendFound;

@@ -1,7 +1,7 @@
 //! The text of what flushes and fences are needed for.
 ghost use Rattle.std.specs.Prelude.{◌≡◌, ◌++◌, IfOk, OnOk, codes, string_bytes};
 ghost use Rattle.std.specs.List.{flat_map};
-ghost use Rattle.mend_jobs.specs.NeedTexts.{alone_line, alone_text, fault_number, fences_text, keep_line, kept, mnemonic, need_line, need_text, needs_text, no_more_text, site_head, stays, tried_text, weaker_text};
+ghost use Rattle.mend_jobs.specs.NeedTexts.{alone_line, alone_text, fault_number, fences_text, keep_line, kept, least_text, mnemonic, need_line, need_text, needs_text, site_head, stays, tried_text, weaker_text};
 
 use crate::asked_program::AskedProgram;
 use crate::fences_found::FencesFound;
@@ -165,27 +165,36 @@ pub(crate) fn kept(needs: &[SiteNeed]) -> usize
     needs.iter().filter(|one| stays(&one.need)).count()
 }
 
-/// That no more can go than those that are left out, if it is so.
-fn no_more_text(no_more: bool) -> &'static str
-    ensures { result.now ≡ no_more_text no_more }
+/// That these are the least number, if it is told; otherwise that no more can go than those that are left out, if it is so.
+fn least_text(least: bool, no_more: bool) -> &'static str
+    ensures { result.now ≡ least_text least no_more }
 {
-    if no_more { ", no more can go" } else { "" }
+    match (least, no_more) {
+        (true, _) => ", least",
+        (false, true) => ", no more can go",
+        (false, false) => "",
+    }
 }
 
-/// Appends how many stay, and of how many; and that no more can go.
-fn push_keep(text: &mut String, needs: &[SiteNeed]) -> Result<(), AllocError>
-    ensures { OnOk result (string_bytes text.new ≡ string_bytes text.old ++ keep_line needs.now) }
+/// Appends how many stay, and of how many; and that these are the least number, or that no more can go.
+fn push_keep(text: &mut String, needs: &[SiteNeed], least: bool) -> Result<(), AllocError>
+    ensures { OnOk result (string_bytes text.new ≡ string_bytes text.old ++ keep_line needs.now least) }
 {
-    let no_more = no_more_text(no_more_can_go(needs));
-    writeln!(text, "keep {} of {}{no_more}", kept(needs), needs.len())
+    let least = least_text(least, no_more_can_go(needs));
+    writeln!(text, "keep {} of {}{least}", kept(needs), needs.len())
 }
 
 /// Appends a line for each, and how many stay.
-fn push_needs(text: &mut String, layout: &Layout, needs: &[SiteNeed]) -> Result<(), AllocError>
-    ensures { OnOk result (string_bytes text.new ≡ string_bytes text.old ++ needs_text layout.now needs.now) }
+fn push_needs(
+    text: &mut String,
+    layout: &Layout,
+    needs: &[SiteNeed],
+    least: bool,
+) -> Result<(), AllocError>
+    ensures { OnOk result (string_bytes text.new ≡ string_bytes text.old ++ needs_text layout.now needs.now least) }
 {
     push_need_lines(text, layout, needs)?;
-    push_keep(text, needs)
+    push_keep(text, needs, least)
 }
 
 /// All that is said of what is found.
@@ -199,9 +208,9 @@ pub(crate) fn fences_text(
     let mut text = String::new(alloc);
     match found {
         FencesFound::Broken(failure) => push_failure(&mut text, failure)?,
-        FencesFound::Each(found, needs) => {
+        FencesFound::Each(found, told) => {
             push_held(&mut text, &asked.question, found)?;
-            push_needs(&mut text, asked.object.layout(), needs)?;
+            push_needs(&mut text, asked.object.layout(), &told.needs, told.least)?;
         }
         FencesFound::One(_, one) => push_alone_line(&mut text, asked.object.layout(), one)?,
     }

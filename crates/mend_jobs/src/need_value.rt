@@ -6,7 +6,7 @@ ghost use Rattle.jobs.specs.CheckReports.{holding};
 ghost use Rattle.mend_jobs.specs.NeedData.{alone_name, broken_data, conditions_data, each_data, fault_data, fault_shown, fences_data, held_data, last_fields, need_data, need_name, one_data, run_data, run_fields, run_shown, said_data, said_fault, said_name, said_run, site_head, source_of, stands, weaker_data, weaker_head};
 
 use crate::asked_program::AskedProgram;
-use crate::fences_found::FencesFound;
+use crate::fences_found::{FencesFound, NeedsTold};
 use crate::need_text::{fault_number, kept};
 use explore::{ExploreFault, Failure, Findings, Question};
 use fence_needs::{Need, SiteNeed, Weaker, WeakerSaid, no_more_can_go};
@@ -369,7 +369,8 @@ fn broken_value(alloc: Global, asked: &AskedProgram, failure: &Failure) -> Resul
     )
 }
 
-/// How the conditions stand, the names of the words, what is told of flushes and fences, how many of how many stay, and whether no more can go.
+/// How the conditions stand, the names of the words, what is told of flushes and fences, how many of how many stay, whether no more can go, and
+/// whether these are told to be the least number.
 fn held_value(
     alloc: Global,
     conditions: Value,
@@ -378,13 +379,15 @@ fn held_value(
     keep: Value,
     of: Value,
     no_more: Value,
+    least: Value,
 ) -> Result<Value, AllocError>
-    ensures { (c w f k n m : Tree) → IsJsonOf c conditions → IsJsonOf w words → IsJsonOf f fences → IsJsonOf k keep
-        → IsJsonOf n of → IsJsonOf m no_more → IfOk result (IsJsonOf (held_data c w f k n m)) }
+    ensures { (c w f k n m l : Tree) → IsJsonOf c conditions → IsJsonOf w words → IsJsonOf f fences → IsJsonOf k keep
+        → IsJsonOf n of → IsJsonOf m no_more → IsJsonOf l least → IfOk result (IsJsonOf (held_data c w f k n m l)) }
 {
     json!(in alloc; {
         "format": FORMAT, "command": "fences", "holds": true, "conditions": conditions,
-        "words": words, "fences": fences, "keep": keep, "of": of, "no_more_can_go": no_more
+        "words": words, "fences": fences, "keep": keep, "of": of, "no_more_can_go": no_more,
+        "least": least
     })
 }
 
@@ -393,12 +396,13 @@ fn each_value(
     alloc: Global,
     asked: &AskedProgram,
     found: &Findings,
-    needs: &[SiteNeed],
+    told: &NeedsTold,
 ) -> Result<Value, AllocError>
-    ensures { IfOk result (IsJsonOf (each_data asked.now found.now needs.now)) }
+    ensures { IfOk result (IsJsonOf (each_data asked.now found.now told.now.needs.items told.now.least)) }
 {
     let conditions = conditions_value(alloc, &asked.question, found)?;
     let words = names_value(alloc, asked.object.layout())?;
+    let needs = &told.needs;
     let fences = needs_value(alloc, &source_of(asked), needs)?;
     let (keep, of) = (kept(needs) as u64, needs.len() as u64);
     held_value(
@@ -409,6 +413,7 @@ fn each_value(
         Value::from(keep),
         Value::from(of),
         Value::from(no_more_can_go(needs)),
+        Value::from(told.least),
     )
 }
 
@@ -432,6 +437,7 @@ fn one_value(
         Value::Null,
         Value::Null,
         Value::Null,
+        Value::Null,
     )
 }
 
@@ -445,7 +451,7 @@ pub(crate) fn fences_value(
 {
     match found {
         FencesFound::Broken(failure) => broken_value(alloc, asked, failure),
-        FencesFound::Each(found, needs) => each_value(alloc, asked, found, needs),
+        FencesFound::Each(found, told) => each_value(alloc, asked, found, told),
         FencesFound::One(found, one) => one_value(alloc, asked, found, one),
     }
 }

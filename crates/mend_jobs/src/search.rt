@@ -2,17 +2,18 @@
 ghost use Rattle.std.specs.Prelude.{IfOk, [], ◌∷◌, option_map};
 ghost use Rattle.machine.specs.Objects.{opening};
 ghost use Rattle.explore.specs.Questions.{AreFindings};
+ghost use Rattle.verdicts.specs.Verdicts.{IsKeptBy};
 ghost use Rattle.commands.specs.Works.{MakesOneOf};
 ghost use Rattle.commands.specs.declared.fault.Stage.TheVariants as stages;
 ghost use Rattle.mend_jobs.specs.FencesCommand.{MayReport};
-ghost use Rattle.mend_jobs.specs.FencesFound.{IsAnswer, IsFound, IsNeedAt};
+ghost use Rattle.mend_jobs.specs.FencesFound.{AreNeedsTold, IsAnswer, IsFound, IsNeedAt};
 
 use crate::asked_program::{AskedProgram, only_site};
-use crate::fences_found::FencesFound;
+use crate::fences_found::{FencesFound, NeedsTold};
 use crate::form::ReportsMends;
 use commands::{Fault, FencesOptions, Report, Stage};
 use explore::{ExploreFault, Findings, Verdict};
-use fence_needs::{SiteNeed, instr_at, need_of, needs, weaker_at};
+use fence_needs::{SiteNeed, instr_at, is_least, need_of, needs, weaker_at};
 use image_reasons::Site;
 use jobs::fault_of;
 use std::alloc::{AllocError, Global};
@@ -43,6 +44,22 @@ fn need_at<G: Gate>(
     })
 }
 
+/// What each flush and fence of a program is needed for, and whether it is told that no larger number can go than are left out.
+fn needs_told<R: Threads + Sync, G: Gate + Sync>(
+    rt: &R,
+    alloc: Global,
+    asked: &AskedProgram,
+    limit: u64,
+    gate: &G,
+) -> Result<NeedsTold, AllocError>
+    ensures { IsKeptBy asked.now.question asked.now.object → IfOk result (AreNeedsTold limit asked.now) }
+{
+    let (object, question) = (&asked.object, &asked.question);
+    let needs = needs(rt, alloc, object, question, limit, gate)?;
+    let least = is_least(alloc, object, question, limit, &needs, gate)?;
+    Ok(NeedsTold { needs, least })
+}
+
 /// What each flush and fence of a program is needed for of which this was found, or the one that is asked about.
 fn with_needs<R: Threads + Sync, G: Gate + Sync>(
     rt: &R,
@@ -58,8 +75,8 @@ fn with_needs<R: Threads + Sync, G: Gate + Sync>(
 {
     match only {
         None => {
-            let list = needs(rt, alloc, &asked.object, &asked.question, limit, gate)?;
-            Ok(FencesFound::Each(found, list))
+            let told = needs_told(rt, alloc, asked, limit, gate)?;
+            Ok(FencesFound::Each(found, told))
         }
         Some(site) => {
             let one = need_at(alloc, asked, site, limit, gate)?;

@@ -283,7 +283,8 @@ runs of the program without it are explored. The report says what holds, and of 
                                                        `clwb` for `clflush`, `sfence` for `mfence`
                                 .., clwb not known R1  it is not told of that one
   keep K of M           so many stay, with which each condition holds, also with all the weaker ones
-  .., no more can go    without those that are left out, and any more, some run breaks a condition
+  .., least             without any larger number of them than are left out some run breaks a condition
+  .., no more can go    that is not told, but so it is without those that are left out, and any more
 Where no weaker one is named, there is none, or some run with it breaks a condition.
 With --only 'cpu P main PLACE' that one is left out and no other, and its line is all of the report:
 `needed`, `not needed` or `not known R1`, and what is said of a weaker one, with all else as it is.

@@ -12,5 +12,5 @@ pub use Rattle.fence_needs.specs.declared.need.SiteNeed.{SiteNeed}
 pub use Rattle.fence_needs.specs.declared.need.Weaker.{Weaker}
 pub use Rattle.fence_needs.specs.declared.need.WeakerSaid.{WeakerSaid}
 pub use Rattle.fence_needs.specs.declared.need.WeakerSaid.TheVariants.{Does, DoesNot, NotKnown}
-pub use Rattle.fence_needs.specs.Least.{AreMore, CannotGo, LeftOutAreNamed, NoMoreCanGo, is_settled, is_told, no_more_can_go}
+pub use Rattle.fence_needs.specs.Least.{AreMore, AreSites, CannotGo, EachChoiceBreaks, IsMost, IsSaidOfLeast, LeftOutAreNamed, NoMoreCanGo, SomeChoiceMayHold, choices, goes_alone, is_settled, is_told, most_choices, no_more_can_go, spare}
 pub use Rattle.fewer_fences.specs.Thinner.{AreByPlace, AreFewer, HasNops, HaveNops, IsOrIsNop, may_be_nop}

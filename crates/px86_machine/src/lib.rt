@@ -41,8 +41,8 @@ pub use explore::{Asked, ExploreFault, Failure, Findings, Numbers, Path, Questio
 
 // The verdict on a program from its first state, and what its flushes and fences are needed for.
 pub use fence_needs::{
-    Need, SiteNeed, Weaker, WeakerSaid, fences_of, need_of, needs, no_more_can_go, replaced,
-    weaker_at, weaker_of, without,
+    MOST_CHOICES, Need, SiteNeed, Weaker, WeakerSaid, fences_of, is_least, need_of, needs,
+    no_more_can_go, replaced, weaker_at, weaker_of, without,
 };
 pub use image_reasons::Site;
 pub use verdicts::verdict_on;

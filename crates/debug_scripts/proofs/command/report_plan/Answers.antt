@@ -1,17 +1,8 @@
-use Rattle.std.proofs.Common.{arith, refl, rules}
-use Rattle.commands.specs.declared.fault.Stage.TheVariants as stages
-use Rattle.debug_scripts.proofs.ListsMadeItemByItem.{one_more}
-use Rattle.debug_scripts.proofs.Plans.{orders_lack}
+use Rattle.debug_scripts.proofs.Plans.{orders_put_as, orders_unput_as}
 use Rattle.debug_scripts.proofs.command.report_plan.Goals as goal
 
-pub loop-order-preserved : goal.loop-order-preserved
-loop-order-preserved c = one_more _ _ _ _ _ _ _ c.order-item.result c.in-Ok-push.ensures.items c.loop-order.invariant c.loop-order-test.true c.order-item.is (search rules)
+pub returns-in-Ok : goal.returns-in-Ok
+returns-in-Ok c = rw c.report_in.ensures (orders_put_as c.args.made c.layout.result.now _ c.made.inside.machine c.made.inside.script _ c.layout.ensures c.made.view_is c.in-Ok.ensures)
 
-pub returns-in_default : goal.returns-in_default
-returns-in_default c = rw c.missing.ensures (orders_lack _ stages.Conditions (0, omega arith, refl))
-
-pub returns-in_default-new : goal.returns-in_default-new
-returns-in_default-new c = rw c.missing-in_default-new.ensures (orders_lack _ stages.Session (2, omega arith, refl))
-
-pub returns-in_default-push : goal.returns-in_default-push
-returns-in_default-push c = rw c.missing-in_default-push.ensures (orders_lack _ stages.Session (2, omega arith, refl))
+pub returns-in-Err : goal.returns-in-Err
+returns-in-Err c = orders_unput_as c.args.made c.layout.result.now _ c.made.inside.machine c.made.inside.script _ c.layout.ensures c.made.view_is c.in-Err.ensures

@@ -1,14 +1,8 @@
-use Rattle.std.proofs.Common.{arith, refl}
-use Rattle.commands.specs.declared.fault.Stage.TheVariants as stages
-use Rattle.debug_scripts.proofs.OwnIds.{stops_own, watches_own}
-use Rattle.debug_scripts.proofs.Plans.{play_lacks}
+use Rattle.debug_scripts.proofs.Plans.{report_put_as, report_unput_as}
 use Rattle.debug_scripts.proofs.plan.report_of.Goals as goal
 
-pub play-text-requires-clause-stops : goal.play-text-requires-clause-stops
-play-text-requires-clause-stops g c = stops_own _ _ _ _ c.made.view_is c.made.invariant c.requires.stops
+pub returns-in-Ok : goal.returns-in-Ok
+returns-in-Ok g c = rw c.report_in.ensures (report_put_as c.args.made c.layout.result.now _ c.made.inside.machine c.made.inside.script _ c.layout.ensures c.made.view_is c.in-Ok.ensures)
 
-pub play-text-requires-clause-watchers : goal.play-text-requires-clause-watchers
-play-text-requires-clause-watchers g c = watches_own _ _ _ _ c.made.view_is c.made.invariant c.requires.watchers
-
-pub returns-in-Err-Session : goal.returns-in-Err-Session
-returns-in-Err-Session g c = rw c.missing.ensures (play_lacks _ stages.Session (1, omega arith, refl))
+pub returns-in-Err : goal.returns-in-Err
+returns-in-Err g c = report_unput_as c.args.made c.layout.result.now _ c.made.inside.machine c.made.inside.script _ c.layout.ensures c.made.view_is c.in-Err.ensures

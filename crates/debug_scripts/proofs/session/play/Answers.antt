@@ -10,11 +10,9 @@ prepare-requires-clause-unarmed g c = none_armed _ _ c.in-Ok.ensures.opened
 pub prepare-requires-clause-unwatched : goal.prepare-requires-clause-unwatched
 prepare-requires-clause-unwatched g c = none_watched _ _ c.in-Ok.ensures.opened
 
-pub played-requires : goal.played-requires
-played-requires g c =
+pub played-requires-clause-shape : goal.played-requires-clause-shape
+played-requires-clause-shape g c =
     let all = is_prepared _ _ c.args.machine (map (λ t. armed t.id t.cond) c.args.stops.items)
     (map (λ w. watch w.id ((goal.Watcher-dyn g (w.watcher.vtable, w.watcher.value)).meaning_of w.watcher.value)) c.args.watchers.items) c.in-Ok.ensures.opened c.in-Ok-prepare.ensures in
-    record {
-      shape = prepared_shape c.args.layout.now _ c.args.machine (map (λ t. armed t.id t.cond) c.args.stops.items)
-          (map (λ w. watch w.id ((goal.Watcher-dyn g (w.watcher.vtable, w.watcher.value)).meaning_of w.watcher.value)) c.args.watchers.items) all c.requires.shape;
-    }
+    prepared_shape (g.F.Form.names c.args.form.now) _ c.args.machine (map (λ t. armed t.id t.cond) c.args.stops.items)
+    (map (λ w. watch w.id ((goal.Watcher-dyn g (w.watcher.vtable, w.watcher.value)).meaning_of w.watcher.value)) c.args.watchers.items) all c.requires.shape

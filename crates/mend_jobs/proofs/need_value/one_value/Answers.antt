@@ -14,5 +14,5 @@ returns c =
     let words : IsJsonOf (names_data asked.object.layout) c.in_ok-words.words = search rules in
     let fences : IsJsonOf (list (said ∷ [])) c.in_ok-fences.fences = search rules in
     let nothing : IsJsonOf null Null = search (rules, the_lemmas) in
-    c.held_value.ensures (conditions_data asked.question c.args.found.now) (names_data asked.object.layout) (list (said ∷ [])) null null null
-    conditions words fences nothing nothing nothing
+    c.held_value.ensures (conditions_data asked.question c.args.found.now) (names_data asked.object.layout) (list (said ∷ [])) null null null null
+    conditions words fences nothing nothing nothing nothing
