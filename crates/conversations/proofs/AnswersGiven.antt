@@ -86,13 +86,20 @@ some_tried lined v ds cut steps some is they (Err fault) tries = tt
 some_tried lined v ds cut steps some is they (Ok count) tries = rw (they, is) at tries
 
 -- those behind it are ahead still
-pub gone_so : (lined : LinedObject) (v w : SessionValue) (a b : Ahead) (ds : List Declaration) (steps : List Step) (text : List ℕ) (count : ℕ)
+left_so : (lined : LinedObject) (v w : SessionValue) (a b : Ahead) (ds : List Declaration) (steps : List Step) (text : List ℕ) (count : ℕ)
     → answer (place w a ds) text ≡ made_at lined (place v a ds) steps → count ≡ tried_of lined ds v steps → b ≡ steps_ahead (drop count steps) []
     → answer (place w b ds) text ≡ gone_at lined (place v a ds) steps
-gone_so lined v w a b ds steps text count answers tries left =
+left_so lined v w a b ds steps text count answers tries left =
     let moved : w ≡ session_made lined ds v steps = ap (λ (x : Answer). x.place.session) answers in
     let written : text ≡ made_text lined ds v steps = ap (λ (x : Answer). x.text) answers in
     rw (left, tries, moved, written) refl
+
+pub gone_so : (lined : LinedObject) (v w : SessionValue) (a b : Ahead) (ds : List Declaration) (some steps : List Step) (text : List ℕ) (count : ℕ) → some ≡ steps
+    → answer (place w a ds) text ≡ made_at lined (place v a ds) some → count ≡ tried_of lined ds v some → b ≡ steps_ahead (drop count steps) []
+    → answer (place w b ds) text ≡ gone_at lined (place v a ds) steps
+gone_so lined v w a b ds some steps text count is answers tries left =
+    left_so lined v w a b ds steps text count (subst (λ (xs : List Step). answer (place w a ds) text ≡ made_at lined (place v a ds) xs) is answers)
+    (subst (λ (xs : List Step). count ≡ tried_of lined ds v xs) is tries) left
 
 pub after_keeps : (v w : SessionValue) (steps : List Step) → w ≡ after v steps → KeepsShape v w
 after_keeps v w steps e =

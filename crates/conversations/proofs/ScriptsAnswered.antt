@@ -77,7 +77,7 @@ one_watch s stops watches w =
     ap (λ (ws : List sessions.Watch). prepared s (map stop_ordered stops) ws) (map-append watch_ordered watches (w ∷ []))
     ∙ watches_more (with_stops (opened s) (map stop_ordered stops)) (map watch_ordered watches) (watch_ordered w)
 
--- ---- an id that is new is no
+-- ---- an id that is new is free
 
 stops_kept : (v : SessionValue) (ws : List sessions.Watch) → (with_watches v ws).stops ≡ v.stops
 stops_kept v [] = refl

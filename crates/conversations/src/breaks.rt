@@ -102,7 +102,6 @@ fn first_cut(
 }
 
 /// Where a break halts steps, if one does. The machine stays as it is.
-#[tactic(auto, using(crate::proofs::BreaksHalt::none_from))]
 pub(crate) fn cut_of(
     alloc: Global,
     lined: &LinedObject,
