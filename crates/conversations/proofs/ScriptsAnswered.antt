@@ -7,7 +7,11 @@ use Rattle.lines_layout.specs.Layouts.{NamedLines}
 use Rattle.lines_layout.specs.Names.{Text}
 use Rattle.litmus_text.specs.declared.text_lines.LinedObject.{LinedObject}
 use Rattle.machine.specs.State.{State}
-use Rattle.debugger.specs.Stops.{Armed}
+use Rattle.conditions.specs.Formulas.{Formula}
+use Rattle.debugger.specs.Stops.{Armed, armed}
+use Rattle.debugger.specs.Notes.{meaning}
+use Rattle.debugger.specs.Writes.{word_selection}
+use Rattle.debugger.specs.declared.fault.SessionFault.TheVariants.{DoubleId}
 use Rattle.debugger.specs.Sessions as sessions
 use Rattle.debugger.specs.Sessions.{SessionValue, opened, stop_of, watch_of, with_stop, with_watch}
 use Rattle.debug_scripts.specs.declared.orders.Command.{Command}
@@ -19,18 +23,19 @@ use Rattle.debug_scripts.specs.DebugReports.{Stand, follow, followed, prepared, 
 use Rattle.debug_scripts.specs.Grammar.{AddAll, Adds}
 use Rattle.debug_scripts.specs.Rows.{Said, Blank, Stop, Watch, Ask, Do, row_of}
 use Rattle.debug_scripts.specs.Scripts.{Script, empty_script}
-use Rattle.debug_scripts.specs.SessionTexts.{watch_text}
+use Rattle.debug_scripts.specs.SessionTexts.{fault_line, watch_text}
 use Rattle.debug_scripts.proofs.Apart.{none_behind, none_put}
 use Rattle.debug_scripts.proofs.GivenForms.{given_are_read}
 use Rattle.debug_scripts.proofs.RowForms.{row_is_read}
 use Rattle.debug_scripts.proofs.ScriptsAreRead.{only_scripts}
-use Rattle.std.specs.Prelude.{nat_lt}
+use Rattle.std.specs.Prelude.{is_some, nat_lt}
 use Rattle.std.specs.List.{position_or_len}
 use Rattle.talks.specs.Conversations.{Exchange, place_after}
 use Rattle.conversations.specs.Checking.{Found}
 use Rattle.conversations.specs.Asking.{stop_as, values_as}
-use Rattle.conversations.specs.Desks.{Declaration}
-use Rattle.conversations.specs.Answered.{Answer, Place, answer_to, partner, place}
+use Rattle.conversations.specs.Desks.{Declaration, declaration}
+use Rattle.conversations.specs.declared.declaration.Kind.TheVariants as kinds
+use Rattle.conversations.specs.Answered.{Answer, Place, answer, answer_to, armed_at, partner, place, watched_at}
 use Rattle.conversations.specs.Breaks.{has_breaks}
 use Rattle.conversations.specs.SameText.{ScriptsAreAnswered, lines_in, replies}
 use Rattle.conversations.proofs.BreaksHalt.{gone_alike, none_either, none_more, none_scripted}
@@ -146,13 +151,25 @@ one_line lined s script next line found (Do command) ds free read is =
     let z = stands lined.object.layout s script in
     rw (read, is) (ap (behind z.text) (gone_alike lined (place z.session z.ahead ds) free command) ∙ commanded lined.object.layout s script command)
 
+-- a stop is no break, and a watch that halts nothing is none
+stop_unbroken : (p : Place) (line : List ℕ) (id : ℕ) (cond : Formula) → has_breaks p.declared ≡ false → has_breaks (armed_at p line id cond).place.declared ≡ false
+stop_unbroken p line id cond free =
+    none_either (is_some (stop_of p.session id)) (answer p (fault_line DoubleId))
+    (answer (place (with_stop p.session (armed id cond)) p.ahead (p.declared ++ declaration kinds.Stop id None line ∷ [])) []) free (none_more p.declared kinds.Stop id line free)
+
+watch_unbroken : (p : Place) (line : List ℕ) (id word : ℕ) → has_breaks p.declared ≡ false → has_breaks (watched_at p line id word false).place.declared ≡ false
+watch_unbroken p line id word free =
+    let w = sessions.watch id (meaning [] (word_selection word)) in
+    none_either (is_some (watch_of p.session id)) (answer p (fault_line DoubleId))
+    (answer (place (with_watch p.session w) p.ahead (p.declared ++ declaration kinds.Watch id None line ∷ [])) []) free (none_more p.declared kinds.Watch id line free)
+
 -- and it declares no break
 no_break : (lined : LinedObject) (p : Place) (script next : Script) (line : List ℕ) (found : Found) (row : Said) → has_breaks p.declared ≡ false → row_of lined.object.layout line ≡ Ok row → Adds lined.object.layout script row next
     → has_breaks (answer_to lined p line found).place.declared ≡ false
 unfolding stop_as values_as
 no_break lined p script next line found Blank free read adds = rw read free
-no_break lined p script next line found (Stop id text) free read (none, cond, good, new, is) = rw (read, good) (none_either _ _ _ free (none_more p.declared _ id line free))
-no_break lined p script next line found (Watch id word) free read (none, new, is) = rw read (none_either _ _ _ free (none_more p.declared _ id line free))
+no_break lined p script next line found (Stop id text) free read (none, cond, good, new, is) = rw (read, good) (stop_unbroken p line id cond free)
+no_break lined p script next line found (Watch id word) free read (none, new, is) = rw read (watch_unbroken p line id word free)
 no_break lined p script next line found (Ask word tokens) free read (given, are, is) = rw (read, given_are_read lined.object.layout [] tokens given are) free
 no_break lined p script next line found (Do command) free read is = rw read (none_scripted lined p command free)
 
