@@ -238,4 +238,3 @@ answers_line lined Went p q is_fed line asked found r is may replies = record {
   may = subst (λ (x : Result Asked LineFault). MayFind lined p x found) (sym is) may;
   answers = answers_by lined Went p q is_fed line asked found r is replies;
 }
-

@@ -169,8 +169,8 @@ watched_at p line id word halts =
 abbrev pub broken_at : LinedObject → Place → List ℕ → ℕ → Moment → Answer
 broken_at lined p line id moment =
     if may_come lined moment then (
-      if has_break p.declared id then answer p (fault_line DoubleId)
-      else answer (place p.session p.ahead (p.declared ++ declaration kinds.Break id (Some moment) line ∷ [])) []
+    if has_break p.declared id then answer p (fault_line DoubleId)
+    else answer (place p.session p.ahead (p.declared ++ declaration kinds.Break id (Some moment) line ∷ [])) []
     ) else answer p (bad_text line BadLine)
 
 -- the session without the stop of an id, if it has one

@@ -445,7 +445,14 @@ pub(crate) fn arm(
 {
     let id = stop.id;
     match session.arm(stop) {
-        Ok(()) => Ok(declare(desk.alloc, &mut desk.declared, Kind::Stop, id, None, &line.bytes)?),
+        Ok(()) => Ok(declare(
+            desk.alloc,
+            &mut desk.declared,
+            Kind::Stop,
+            id,
+            None,
+            &line.bytes,
+        )?),
         Err((OrNoMemory::Fault(fault), _)) => Ok(writeln!(text, "{fault}")?),
         Err((OrNoMemory::NoMemory, _)) => Err(PlayFault::Session),
     }

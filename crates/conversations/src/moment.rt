@@ -55,13 +55,7 @@ fn line_of(lined: &LinedObject, view: &View<'_>, p: usize) -> Option<u64>
 }
 
 /// Whether processor p comes to a line.
-fn comes_to(
-    lined: &LinedObject,
-    line: u32,
-    before: &View<'_>,
-    after: &View<'_>,
-    p: usize,
-) -> bool
+fn comes_to(lined: &LinedObject, line: u32, before: &View<'_>, after: &View<'_>, p: usize) -> bool
     ensures { result ≡ comes_to lined.now line before.now after.now p }
 {
     is_line(line, line_of(lined, after, p)) && !is_line(line, line_of(lined, before, p))
