@@ -1,6 +1,7 @@
 -- What is answered to `crash V ..` leads to a state that a crash leaves.
 use Rattle.std.proofs.Common.{◌≡◌, ℕ, ◌+◌, ◌<◌, List, [], ◌∷◌, length, take, Option, Some, None, refl, sym, ap, subst}
 use Rattle.std.specs.Option.{option_map_or}
+use Rattle.litmus_text.specs.declared.text_lines.LinedObject.{LinedObject}
 use Rattle.machine.specs.Limits.{max_turns}
 use Rattle.machine.specs.Steps.{run_of}
 use Rattle.machine.specs.declared.refusal.Refusal.{Refusal}
@@ -17,7 +18,9 @@ use Rattle.debugger.specs.Halts.{halt_of, made, stopped, stopping_prefix, unstop
 use Rattle.debugger.specs.Sessions.{SessionValue}
 use Rattle.debugger.specs.declared.halt.Halt.{Halt}
 use Rattle.debugger.specs.declared.halt.Halt.TheVariants as halts
+use Rattle.conversations.specs.declared.breaks.Cut.{Cut}
 use Rattle.conversations.specs.Answered.{Place, crashed_at}
+use Rattle.conversations.specs.Breaks.{cut_of, up_to}
 use Rattle.conversations.specs.Crashing.{CrashesLeaveTheImage, IsUnstoppedCrash}
 
 -- steps that are all accepted are all made, where no stop comes before the last
@@ -36,25 +39,31 @@ whole : {A : Type 0} (xs : List A) (n : ℕ) → n ≡ length xs → take n xs �
 whole [] n is = rw is refl
 whole (x ∷ xs) n is = rw is (ap (λ (ys : List _). x ∷ ys) (whole xs (length xs) refl))
 
-by_set : (p : Place) (image : List ℕ) (found : Option (List ℕ)) → IsSound p.session.past.state → p.session.past.state.turns + length p.session.past.state.memory.pending < max_turns
-    → IsImage p.session.past.state image → IsLeastSet p.session.past.state image found → IsUnstoppedCrash p.session found
-    → (persisted : List ℕ) × (image ≡ image_at p.session.past.state.shape persisted) × AreAlike (crashed_at p found).place.session.past.state (fallen p.session.past.state persisted)
-by_set p image None sound room is least unstopped-crash = absurd (least is)
-by_set p image (Some places) sound room is least unstopped-crash =
+-- no break comes before the last
+uncut : (steps : List Step) (o : Option Cut) → ((cut : Cut) → o ≡ Some cut → cut.count ≡ length steps) → up_to o steps ≡ steps
+uncut steps None last = refl
+uncut steps (Some cut) last = whole steps cut.count (last cut refl)
+
+by_set : (lined : LinedObject) (p : Place) (image : List ℕ) (found : Option (List ℕ)) → IsSound p.session.past.state → p.session.past.state.turns + length p.session.past.state.memory.pending < max_turns
+    → IsImage p.session.past.state image → IsLeastSet p.session.past.state image found → IsUnstoppedCrash lined p found
+    → (persisted : List ℕ) × (image ≡ image_at p.session.past.state.shape persisted) × AreAlike (crashed_at lined p found).place.session.past.state (fallen p.session.past.state persisted)
+by_set lined p image None sound room is least unstopped-crash = absurd (least is)
+by_set lined p image (Some places) sound room is least unstopped-crash =
     let v = p.session in
     let s = v.past.state in
     let steps = fall_at s.memory.pending places in
     let (persisted, shown, reached, fall) = falls_by_places s places image sound room least in
     let all : made steps (halt_of v steps) ≡ length steps =
-    all_made v steps (run_of steps s).accepted (stopping_prefix v steps) (run_of steps s).refusal (halt_of v steps) fall.accepted refl unstopped-crash in
-    let they : take (made steps (halt_of v steps)) steps ≡ steps = whole steps (made steps (halt_of v steps)) all in (
+    all_made v steps (run_of steps s).accepted (stopping_prefix v steps) (run_of steps s).refusal (halt_of v steps) fall.accepted refl unstopped-crash.stops in
+    let they : take (made steps (halt_of v steps)) steps ≡ steps = whole steps (made steps (halt_of v steps)) all in
+    let none : up_to (cut_of lined p.declared s steps) steps ≡ steps = uncut steps (cut_of lined p.declared s steps) unstopped-crash.breaks in (
       persisted,
       shown,
-      subst (λ (xs : List Step). AreAlike (run_of xs s).state (fallen s persisted)) (sym they) fall.leaves,
+      rw none (subst (λ (xs : List Step). AreAlike (run_of xs s).state (fallen s persisted)) (sym they) fall.leaves),
     )
 
 pub crashes_leave_the_image : CrashesLeaveTheImage
-crashes_leave_the_image p image sound room is unstopped-crash =
+crashes_leave_the_image lined p image sound room is unstopped-crash =
     let s = p.session.past.state in
     let known = sound_whole s sound in
-    by_set p image (closed_set_of s image) sound room is (is_least_set s.shape image s.memory sound.shape known.lines known.persisted) unstopped-crash
+    by_set lined p image (closed_set_of s image) sound room is (is_least_set s.shape image s.memory sound.shape known.lines known.persisted) unstopped-crash

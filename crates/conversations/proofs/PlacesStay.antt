@@ -1,6 +1,6 @@
 -- A conversation stays about its program.
 use Rattle.std.proofs.Common.{◌≡◌, ℕ, zero, suc, List, [], ◌∷◌, ◌++◌, Bool, true, false, Option, Some, None, Result, Ok, Err, length, take, refl, sym, ◌∙◌, ap, subst}
-use Rattle.std.specs.Prelude.{◌-◌, if◌then◌else◌, is_some, min, nat_lt, slice_get}
+use Rattle.std.specs.Prelude.{◌-◌, ◌&&◌, if◌then◌else◌, is_some, min, nat_lt, slice_get}
 use Rattle.litmus_text.specs.declared.text_lines.LinedObject.{LinedObject}
 use Rattle.images.specs.Images.{closed_set_of}
 use Rattle.machine.specs.State.{State}
@@ -19,8 +19,8 @@ use Rattle.debugger.specs.declared.halt.Halt.{Halt}
 use Rattle.debugger.specs.declared.halt.Halt.TheVariants as halts
 use Rattle.debugger.proofs.HistoriesLeadToStates.{front_accepted, leads, led_front, run_accepted, run_state}
 use Rattle.debugger.proofs.LeastPrefixStops.{halt_so}
-use Rattle.debug_scripts.specs.Ahead.{Ahead, all_ahead}
-use Rattle.debug_scripts.specs.DebugReports.{Stand, follow, stand}
+use Rattle.debug_scripts.specs.Ahead.{all_ahead}
+use Rattle.debug_scripts.specs.DebugReports.{Stand}
 use Rattle.debug_scripts.specs.declared.orders.Command.{Command}
 use Rattle.debug_scripts.specs.declared.orders.Command.TheVariants as commands
 use Rattle.conversations.specs.declared.asked.Asked.{Asked}
@@ -30,7 +30,10 @@ use Rattle.conversations.specs.declared.asked.Order.TheVariants as orders
 use Rattle.conversations.specs.declared.line_fault.LineFault.{LineFault}
 use Rattle.conversations.specs.Asking.{asked_of}
 use Rattle.conversations.specs.Checking.{Found}
-use Rattle.conversations.specs.Answered.{Answer, Place, answered, crashed_at, deleted_at, gone_to, ordered, picked_at, unarmed, unmade_at, walked_by}
+use Rattle.conversations.specs.declared.moment.Moment.{Moment}
+use Rattle.conversations.specs.Answered.{Answer, Place, answered, broken_at, crashed_at, deleted_at, gone_to, ordered, picked_at, scripted_at, unarmed, unmade_at, walked_by}
+use Rattle.conversations.specs.Breaks.{has_break, may_come, session_made, unbroken}
+use Rattle.conversations.specs.Desks.{Declaration}
 use Rattle.conversations.specs.Eager.{is_met, most_steps, runs_of, steps_to, steps_until}
 use Rattle.conversations.specs.declared.eager.Aim.TheVariants.{Nowhere}
 use Rattle.conversations.specs.Reversing.{is_stopped, reversed}
@@ -62,8 +65,10 @@ module _ (lined : LinedObject) where
   made_accepted v steps (halts.NoMemory n) never = absurd never
   made_accepted v steps halts.End is = front_accepted (length steps) steps v.past.state is.accepted
 
-  made_about : (v : SessionValue) (steps : List Step) → IsAbout lined v → IsAbout lined (after v (take (made steps (halt_of v steps)) steps))
-  made_about v steps is = with_steps v (take (made steps (halt_of v steps)) steps) (made_accepted v steps (halt_of v steps) (halt_so v steps)) is
+  made_about : (v : SessionValue) (ds : List Declaration) (steps : List Step) → IsAbout lined v → IsAbout lined (session_made lined ds v steps)
+  made_about v ds steps is =
+      let some = unbroken lined ds v.past.state steps in
+      with_steps v (take (made some (halt_of v some)) some) (made_accepted v some (halt_of v some) (halt_so v some)) is
 
   -- fewer steps
   fewer_about : (v w : SessionValue) (n : ℕ) → w.past ≡ undone v.past n → IsAbout lined v → IsAbout lined w
@@ -86,16 +91,16 @@ module _ (lined : LinedObject) where
 
   -- ---- answers
 
-  picked_about : (p : Place) (n : ℕ) (found : Option Step) → IsAbout lined p.session → IsAbout lined (picked_at p n found).place.session
-  picked_about p n (Some step) is = made_about p.session (step ∷ []) is
+  picked_about : (p : Place) (n : ℕ) (found : Option Step) → IsAbout lined p.session → IsAbout lined (picked_at lined p n found).place.session
+  picked_about p n (Some step) is = made_about p.session p.declared (step ∷ []) is
   picked_about p n None is = is
 
-  walked_about : (p : Place) (found : Option Step) → IsAbout lined p.session → IsAbout lined (walked_by p found).place.session
-  walked_about p (Some step) is = made_about p.session (step ∷ []) is
+  walked_about : (p : Place) (found : Option Step) → IsAbout lined p.session → IsAbout lined (walked_by lined p found).place.session
+  walked_about p (Some step) is = made_about p.session p.declared (step ∷ []) is
   walked_about p None is = is
 
-  crashed_about : (p : Place) (found : Option (List ℕ)) → IsAbout lined p.session → IsAbout lined (crashed_at p found).place.session
-  crashed_about p (Some places) is = made_about p.session (fall_at p.session.past.state.memory.pending places) is
+  crashed_about : (p : Place) (found : Option (List ℕ)) → IsAbout lined p.session → IsAbout lined (crashed_at lined p found).place.session
+  crashed_about p (Some places) is = made_about p.session p.declared (fall_at p.session.past.state.memory.pending places) is
   crashed_about p None is = is
 
   -- the one answer or the other, and the one stand or the other
@@ -119,56 +124,62 @@ module _ (lined : LinedObject) where
       let one : IsAbout lined (unarmed v id) = one_about (is_some (stop_of v id)) (without_stop v id) v (same_past v (without_stop v id) refl is) is in
       one_about (is_some (watch_of (unarmed v id) id)) (without_watch (unarmed v id) id) (unarmed v id) (same_past (unarmed v id) (without_watch (unarmed v id) id) refl one) one
 
-  follow_about : (v : SessionValue) (a : Ahead) (command : Command) → IsAbout lined v → IsAbout lined (follow lined.object.layout (stand v a []) command).session
-  follow_about v a (commands.Gather step) is = is
-  follow_about v a commands.Go is = made_about v a.gathered is
-  follow_about v a commands.Continue is = made_about v (all_ahead a) is
-  follow_about v a (commands.Back n) is =
-      stand_about (nat_lt (length v.past.history) n) _ _ is (fewer_about v (gone_back v n) n refl is)
-  follow_about v a commands.Show is = is
-  follow_about v a commands.Images is = is
-  follow_about v a (commands.Values asked) is = is
-  follow_about v a (commands.Disarm id) is = one_about (is_some (stop_of v id)) (without_stop v id) v (same_past v (without_stop v id) refl is) is
-  follow_about v a (commands.Detach id) is = one_about (is_some (watch_of v id)) (without_watch v id) v (same_past v (without_watch v id) refl is) is
+  scripted_about : (p : Place) (command : Command) → IsAbout lined p.session → IsAbout lined (scripted_at lined p command).place.session
+  scripted_about p (commands.Gather step) is = is
+  scripted_about p commands.Go is = made_about p.session p.declared p.ahead.gathered is
+  scripted_about p commands.Continue is = made_about p.session p.declared (all_ahead p.ahead) is
+  scripted_about p (commands.Back n) is =
+      stand_about (nat_lt (length p.session.past.history) n) _ _ is (fewer_about p.session (gone_back p.session n) n refl is)
+  scripted_about p commands.Show is = is
+  scripted_about p commands.Images is = is
+  scripted_about p (commands.Values asked) is = is
+  scripted_about p (commands.Disarm id) is = one_about (is_some (stop_of p.session id)) (without_stop p.session id) p.session (same_past p.session (without_stop p.session id) refl is) is
+  scripted_about p (commands.Detach id) is = one_about (is_some (watch_of p.session id)) (without_watch p.session id) p.session (same_past p.session (without_watch p.session id) refl is) is
 
-  ordered_about : (p : Place) (order : Order) → IsAbout lined p.session → IsAbout lined (ordered lined p order).place.session
-  ordered_about p orders.Nothing is = is
-  ordered_about p (orders.Script command) is = follow_about p.session p.ahead command is
-  ordered_about p (orders.Make step) is = made_about p.session (step ∷ []) is
-  ordered_about p orders.Walk is = walked_about p (slice_get (all_ahead p.ahead) 0) is
-  ordered_about p (orders.Run n) is = made_about p.session (steps_to (is_met Nowhere) (min n most_steps) p.session.past.state) is
-  ordered_about p (orders.Until processor place) is = made_about p.session (steps_until processor place p.session.past.state) is
-  ordered_about p (orders.Finish processor) is = made_about p.session (runs_of processor) is
-  ordered_about p (orders.Undo n) is = unmade_about p n is
-  ordered_about p (orders.Goto n) is = gone_about p n is
-  ordered_about p orders.Reverse is = reversed_about (length p.session.past.history) p.session is
-  ordered_about p orders.Ahead is = is
-  ordered_about p orders.Changed is = is
-  ordered_about p orders.List is = is
-  ordered_about p orders.Next is = is
-  ordered_about p (orders.Pick n) is = picked_about p n (slice_get (next_steps false p.session.past.state) n) is
-  ordered_about p (orders.Word word) is = is
-  ordered_about p (orders.Register processor r) is = is
-  ordered_about p (orders.All cond) is = is
-  ordered_about p (orders.Broken cond) is = is
-  ordered_about p (orders.Set image) is = is
-  ordered_about p (orders.Why image) is = is
-  ordered_about p (orders.CrashTo image) is = crashed_about p (closed_set_of p.session.past.state image) is
-  ordered_about p orders.Info is = is
-  ordered_about p (orders.Delete id) is = deleted_about p id is
-  ordered_about p orders.Notes is = is
-  ordered_about p orders.History is = is
-  ordered_about p orders.Help is = is
-  ordered_about p (orders.Row word) is = is
-  ordered_about p orders.Quit is = is
+  broken_about : (p : Place) (line : List ℕ) (id : ℕ) (moment : Moment) → IsAbout lined p.session → IsAbout lined (broken_at lined p line id moment).place.session
+  broken_about p line id moment is = answer_about (may_come lined moment) _ _ (answer_about (has_break p.declared id) _ _ is is) is
+
+  ordered_about : (p : Place) (line : List ℕ) (order : Order) → IsAbout lined p.session → IsAbout lined (ordered lined p line order).place.session
+  ordered_about p line orders.Nothing is = is
+  ordered_about p line (orders.Script command) is = scripted_about p command is
+  ordered_about p line (orders.Make step) is = made_about p.session p.declared (step ∷ []) is
+  ordered_about p line orders.Walk is = walked_about p (slice_get (all_ahead p.ahead) 0) is
+  ordered_about p line (orders.Run n) is = made_about p.session p.declared (steps_to (is_met Nowhere) (min n most_steps) p.session.past.state) is
+  ordered_about p line (orders.Until processor place) is = made_about p.session p.declared (steps_until processor place p.session.past.state) is
+  ordered_about p line (orders.Finish processor) is = made_about p.session p.declared (runs_of processor) is
+  ordered_about p line (orders.Undo n) is = unmade_about p n is
+  ordered_about p line (orders.Goto n) is = gone_about p n is
+  ordered_about p line orders.Reverse is = reversed_about (length p.session.past.history) p.session is
+  ordered_about p line orders.Ahead is = is
+  ordered_about p line orders.List is = is
+  ordered_about p line orders.Next is = is
+  ordered_about p line (orders.Pick n) is = picked_about p n (slice_get (next_steps false p.session.past.state) n) is
+  ordered_about p line (orders.Word word) is = is
+  ordered_about p line (orders.Register processor r) is = is
+  ordered_about p line (orders.All cond) is = is
+  ordered_about p line (orders.Broken cond) is = is
+  ordered_about p line (orders.Set image) is = is
+  ordered_about p line (orders.Why image) is = is
+  ordered_about p line (orders.CrashTo image) is = crashed_about p (closed_set_of p.session.past.state image) is
+  ordered_about p line orders.Info is = is
+  ordered_about p line (orders.Delete id) is = deleted_about p id is
+  ordered_about p line (orders.Break id moment) is = broken_about p line id moment is
+  ordered_about p line orders.Changed is = is
+  ordered_about p line orders.Notes is = is
+  ordered_about p line orders.History is = is
+  ordered_about p line orders.Help is = is
+  ordered_about p line (orders.Row word) is = is
+  ordered_about p line orders.Quit is = is
 
   answered_about : (p : Place) (line : List ℕ) (asked : Result Asked LineFault) (found : Found) → IsAbout lined p.session → IsAbout lined (answered lined p line asked found).place.session
   answered_about p line (Ok (asks.Stop id cond)) found is =
       answer_about (is_some (stop_of p.session id)) _ _ is (same_past p.session (with_stop p.session (armed id cond)) refl is)
-  answered_about p line (Ok (asks.Watch order)) found is =
-      answer_about (is_some (watch_of p.session order.id)) _ _ is (same_past p.session (with_watch p.session (watch order.id (meaning [] (word_selection order.word)))) refl is)
+  answered_about p line (Ok (asks.Watch order halts)) found is =
+      let w = watch order.id (meaning [] (word_selection order.word)) in
+      answer_about (halts && has_break p.declared order.id) _ _ is
+      (answer_about (is_some (watch_of p.session order.id)) _ _ is (same_past p.session (with_watch p.session w) refl is))
   answered_about p line (Ok (asks.Check cond)) found is = is
-  answered_about p line (Ok (asks.Order order)) found is = ordered_about p order is
+  answered_about p line (Ok (asks.Order order)) found is = ordered_about p line order is
   answered_about p line (Err fault) found is = is
 
 pub stays_about : (lined : LinedObject) → StaysAbout lined

@@ -17,8 +17,10 @@ use Rattle.conversations.specs.declared.asked.Asked.{Asked}
 use Rattle.conversations.specs.declared.line_fault.LineFault.{LineFault}
 use Rattle.conversations.specs.Checking.{Found}
 use Rattle.conversations.specs.Answered.{Answer, Place, answer_by, answer_to, answered, first_place, partner, place}
+use Rattle.conversations.specs.Breaks.{has_breaks}
 use Rattle.conversations.specs.Desks.{declared_after}
 use Rattle.conversations.specs.SameText.{AnswersAreTheReport, AskCommands, lines_in, replies}
+use Rattle.conversations.proofs.BreaksHalt.{gone_alike, none_after}
 
 -- a stand with this before its text
 abbrev pub onto : Text → Stand → Stand
@@ -51,18 +53,19 @@ followed_onto names (command ∷ cs) v a t =
     ∙ ap (onto t) (sym (followed_onto names cs s.session s.ahead s.text))
 
 -- lines that ask commands lead where the commands lead, and their answers are what the commands write
-asked_all : (lined : LinedObject) (p : Place) (lines : List (Exchange Found)) (cs : List Command) → AskCommands lined.object.layout (lines_in lines) cs
+asked_all : (lined : LinedObject) (p : Place) (lines : List (Exchange Found)) (cs : List Command) → has_breaks p.declared ≡ false → AskCommands lined.object.layout (lines_in lines) cs
     → stand (place_after (partner lined) p lines).session (place_after (partner lined) p lines).ahead (replies lined p lines) ≡ followed lined.object.layout (stand p.session p.ahead []) cs
-asked_all lined p [] [] asks-all = refl
-asked_all lined p [] (command ∷ cs) asks-all = absurd asks-all
-asked_all lined p (x ∷ lines) [] asks-all = absurd asks-all
-asked_all lined p (x ∷ lines) (command ∷ cs) (is, others) =
+asked_all lined p [] [] free asks-all = refl
+asked_all lined p [] (command ∷ cs) free asks-all = absurd asks-all
+asked_all lined p (x ∷ lines) [] free asks-all = absurd asks-all
+asked_all lined p (x ∷ lines) (command ∷ cs) free (is, others) =
     let s = follow lined.object.layout (stand p.session p.ahead []) command in
     let q : Place = place s.session s.ahead (declared_after command p.declared) in
-    let one : answer_to lined p x.line x.found ≡ answer_by s (declared_after command p.declared) = ap (λ (y : Result Asked LineFault). answered lined p x.line y x.found) is in
+    let one : answer_to lined p x.line x.found ≡ answer_by s (declared_after command p.declared) =
+    ap (λ (y : Result Asked LineFault). answered lined p x.line y x.found) is ∙ gone_alike lined p free command in
     let first : Answer → Stand = λ (a : Answer). stand (place_after (partner lined) a.place lines).session (place_after (partner lined) a.place lines).ahead (a.text ++ replies lined a.place lines) in
-    ap first one ∙ ap (onto s.text) (asked_all lined q lines cs others) ∙ sym (followed_onto lined.object.layout cs s.session s.ahead s.text)
+    ap first one ∙ ap (onto s.text) (asked_all lined q lines cs (none_after command p.declared free) others) ∙ sym (followed_onto lined.object.layout cs s.session s.ahead s.text)
 
 pub answers_are_the_report : AnswersAreTheReport
 answers_are_the_report lined s lines cs all =
-    ap (λ (z : Stand). z.text ++ flat_map (watch_text lined.object.layout) z.session.watches) (asked_all lined (first_place s) lines cs all)
+    ap (λ (z : Stand). z.text ++ flat_map (watch_text lined.object.layout) z.session.watches) (asked_all lined (first_place s) lines cs refl all)

@@ -64,7 +64,7 @@ module _ {T : Type 0} (Went : T → T → List Event → Type 0) (both : (a b c 
       → Asks lined (Went a b) left new r
   asks_line a b left new line (Ok hears.Nothing) so never = absurd never
   asks_line a b left new line (Ok (hears.Stop own id asked cond)) so (same, is, twice) = rw same (so, is, twice)
-  asks_line a b left new line (Ok (hears.Watch own order)) so (same, is) = rw same (so, is)
+  asks_line a b left new line (Ok (hears.Watch own order halts)) so (same, is) = rw same (so, is)
   asks_line a b left new line (Ok (hears.Check own cond)) so (same, is) = rw same (so, is)
   asks_line a b left new line (Ok (hears.Other own order)) so (same, is) = rw same (so, is)
   asks_line a b left new line (Err fault) so is = λ p. rw is (turn_unanswered Went both (partner lined) a b p p left new line.is_fed line.bytes.items so)
@@ -86,12 +86,12 @@ module _ {T : Type 0} (Went : T → T → List Event → Type 0) (both : (a b c 
       line_answered a b c p q left new line (Ok (asks.Stop id cond)) nothing_found r so is tt (rw (same_id, same_cond) at told)
 
   -- and of a watch
-  pub watch_answered : (a b c : T) (p q : Place) (left new : ℕ) (line : Line) (order : WatchOrder) (id : ℕ) (r : Result Bool TalkFault)
-      → HasHeard (partner lined) (Went a b) left new line.is_fed line.bytes.items → asked_of lined.object.layout line.bytes.items ≡ Ok (asks.Watch order)
-      → id ≡ order.id → Replies (Went b c) (watched_at p line.bytes.items id order.word) q (may_go_on line.is_fed line.bytes.items) r
+  pub watch_answered : (a b c : T) (p q : Place) (left new : ℕ) (line : Line) (order : WatchOrder) (halts : Bool) (id : ℕ) (r : Result Bool TalkFault)
+      → HasHeard (partner lined) (Went a b) left new line.is_fed line.bytes.items → asked_of lined.object.layout line.bytes.items ≡ Ok (asks.Watch order halts)
+      → id ≡ order.id → Replies (Went b c) (watched_at p line.bytes.items id order.word halts) q (may_go_on line.is_fed line.bytes.items) r
       → Turns (partner lined) (Went a c) p q left new r
-  watch_answered a b c p q left new line order id r so is same told =
-      line_answered a b c p q left new line (Ok (asks.Watch order)) nothing_found r so is tt (rw same at told)
+  watch_answered a b c p q left new line order halts id r so is same told =
+      line_answered a b c p q left new line (Ok (asks.Watch order halts)) nothing_found r so is tt (rw same at told)
 
   -- and where all runs are asked about
   pub check_answered : (a b c : T) (p q : Place) (left new : ℕ) (line : Line) (cond : Formula) (r : Result Bool TalkFault)

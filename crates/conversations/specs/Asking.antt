@@ -1,5 +1,5 @@
 -- What a line of a conversation asks.
-use Rattle.std.specs.Prelude.{ℕ, Bool, not, ◌&&◌, ◌==◌, if◌then◌else◌, Option, Some, None, Result, Ok, Err, List, [], length, take, drop, bytes_eq, codes}
+use Rattle.std.specs.Prelude.{ℕ, Bool, true, false, not, ◌&&◌, ◌==◌, if◌then◌else◌, Option, Some, None, Result, Ok, Err, List, [], length, take, drop, bytes_eq, codes}
 use Rattle.std.specs.List.{prefix_len}
 use Rattle.outcomes.specs.Outcomes.{◌>>=◌, refused_as, required}
 use Rattle.lines_layout.specs.Layouts.{NamedLines, word_of}
@@ -24,6 +24,8 @@ use Rattle.conversations.specs.declared.asked.Order.{Order}
 use Rattle.conversations.specs.declared.asked.Order.TheVariants as orders
 use Rattle.conversations.specs.declared.line_fault.LineFault.{LineFault}
 use Rattle.conversations.specs.declared.line_fault.LineFault.TheVariants.{BadLine, Condition}
+use Rattle.conversations.specs.declared.moment.Moment.{Moment}
+use Rattle.conversations.specs.declared.moment.Moment.TheVariants as moments
 
 -- ---- lines of a script
 
@@ -43,7 +45,7 @@ values_as names word tokens = do
 abbrev pub asked_as : NamedLines → Said → Result Asked LineFault
 asked_as names Blank = Ok (asks.Order orders.Nothing)
 asked_as names (Stop id text) = stop_as names id text
-asked_as names (Watch id word) = Ok (asks.Watch (record { id = id; word = word }))
+asked_as names (Watch id word) = Ok (asks.Watch (record { id = id; word = word }) false)
 asked_as names (Ask word tokens) = values_as names word tokens
 asked_as names (Do command) = Ok (asks.Order (orders.Script command))
 
@@ -188,6 +190,27 @@ is_word line word =
     let piece = piece_of (uncommented line) in
     bytes_eq piece.0 word && (length (past_blanks piece.1) == 0)
 
+-- where a break halts on a line, by what comes after `line`: its number
+unfoldable pub line_as : List ℕ → Result Moment LineFault
+line_as behind = do
+  n ← lone_number behind
+  Ok (moments.Line n)
+
+-- where a break halts, by what comes after its id
+abbrev pub moment_as : List ℕ → Result Moment LineFault
+moment_as text =
+    if is_word text (codes "crash") then Ok moments.Crash
+    else if is_word text (codes "trap") then Ok moments.Trap
+    else if bytes_eq (piece_of text).0 (codes "line") then line_as (piece_of text).1
+    else Err BadLine
+
+-- what comes after `break` orders: an id, and where it halts
+unfoldable pub break_as : List ℕ → Result Order LineFault
+break_as behind = do
+  id ← required BadLine (small_number_of (piece_of behind).0)
+  moment ← moment_as (piece_of behind).1
+  Ok (orders.Break id moment)
+
 -- what a line orders that is one word alone, if it is such a word
 abbrev pub lone_of : List ℕ → Option Order
 lone_of line =
@@ -214,6 +237,7 @@ worded_of names piece =
     else if bytes_eq piece.0 (codes "goto") then goto_as piece.1
     else if bytes_eq piece.0 (codes "print") then print_as names piece.1
     else if bytes_eq piece.0 (codes "delete") then delete_as piece.1
+    else if bytes_eq piece.0 (codes "break") then break_as piece.1
     else if bytes_eq piece.0 (codes "help") then row_as piece.1
     else pick_as piece
 
@@ -231,6 +255,17 @@ unfoldable pub check_as : NamedLines → List ℕ → Result Asked LineFault
 check_as names text = do
   cond ← refused_as Condition (condition_of names (asked_of_runs text))
   Ok (asks.Check cond)
+
+-- a watch of a word that halts, where nothing but `stop` is behind its id and its name
+abbrev pub halting_if : Bool → ℕ → ℕ → Result Asked LineFault
+halting_if is_stop id word = if is_stop then Ok (asks.Watch (record { id = id; word = word }) true) else Err BadLine
+
+-- what comes after `watch` asks, where the line is none of a script
+unfoldable pub halting_as : NamedLines → List ℕ → Result Asked LineFault
+halting_as names text = do
+  id ← required BadLine (small_number_of (piece_of text).0)
+  word ← required BadLine (word_of names (piece_of (piece_of text).1).0)
+  halting_if (is_word (piece_of (piece_of text).1).1 (codes "stop")) id word
 
 -- what comes after `all` orders: a condition is asked of all images
 unfoldable pub all_as : NamedLines → List ℕ → Result Order LineFault
@@ -291,7 +326,9 @@ as_asked (Err fault) = Err fault
 abbrev pub own_asked : NamedLines → List ℕ → Result Asked LineFault
 own_asked names line =
     let piece = piece_of (uncommented line) in
-    if bytes_eq piece.0 (codes "check") then check_as names piece.1 else as_asked (own_of names line)
+    if bytes_eq piece.0 (codes "check") then check_as names piece.1
+    else if bytes_eq piece.0 (codes "watch") then halting_as names piece.1
+    else as_asked (own_of names line)
 
 -- What a line asks, by what it says in a script. Where it is a line of a script, it asks that and nothing else.
 abbrev pub asked_by : NamedLines → List ℕ → Result Said BadRow → Result Asked LineFault

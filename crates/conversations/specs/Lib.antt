@@ -1,5 +1,7 @@
 pub mod Answered
 pub mod Asking
+pub mod Breaking
+pub mod Breaks
 pub mod Changed
 pub mod Checking
 pub mod Conversing

@@ -19,7 +19,7 @@ use Rattle.conversations.specs.Answered.{Answer, Place, checked_at, partner}
 abbrev pub IsRead : NamedLines → Line → Result Heard TalkFault → Type 0
 IsRead names line (Ok hears.Nothing) = ⊥
 IsRead names line (Ok (hears.Stop own id asked cond)) = (own ≡ line) × (asked_of names line.bytes.items ≡ Ok (asks.Stop id cond)) × (asked ≡ cond)
-IsRead names line (Ok (hears.Watch own order)) = (own ≡ line) × (asked_of names line.bytes.items ≡ Ok (asks.Watch order))
+IsRead names line (Ok (hears.Watch own order halts)) = (own ≡ line) × (asked_of names line.bytes.items ≡ Ok (asks.Watch order halts))
 IsRead names line (Ok (hears.Check own cond)) = (own ≡ line) × (asked_of names line.bytes.items ≡ Ok (asks.Check cond))
 IsRead names line (Ok (hears.Other own order)) = (own ≡ line) × (asked_of names line.bytes.items ≡ as_asked order)
 IsRead names line (Err fault) = fault ≡ faults.NoMemory
@@ -38,8 +38,8 @@ abbrev pub Asks : LinedObject → (List Event → Type 0) → ℕ → ℕ → Re
 Asks lined Went old new (Ok hears.Nothing) = IsTurn lined Went old new (Ok false)
 Asks lined Went old new (Ok (hears.Stop line id asked cond)) =
     IsHeard lined Went old new line × (asked_of lined.object.layout line.bytes.items ≡ Ok (asks.Stop id cond)) × (asked ≡ cond)
-Asks lined Went old new (Ok (hears.Watch line order)) =
-    IsHeard lined Went old new line × (asked_of lined.object.layout line.bytes.items ≡ Ok (asks.Watch order))
+Asks lined Went old new (Ok (hears.Watch line order halts)) =
+    IsHeard lined Went old new line × (asked_of lined.object.layout line.bytes.items ≡ Ok (asks.Watch order halts))
 Asks lined Went old new (Ok (hears.Check line cond)) =
     IsHeard lined Went old new line × (asked_of lined.object.layout line.bytes.items ≡ Ok (asks.Check cond))
 Asks lined Went old new (Ok (hears.Other line order)) =

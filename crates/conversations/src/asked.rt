@@ -4,11 +4,12 @@ ghost use Rattle.outcomes.specs.Calls.{Answers};
 ghost use Rattle.outcomes.specs.Faults.{fault_in};
 ghost use Rattle.text_tokens.specs.Cursors.{unread};
 ghost use Rattle.debug_scripts.specs.ReadRows.{said};
-ghost use Rattle.conversations.specs.Asking.{all_as, asked_as, asked_of, asked_of_runs, as_asked, broken_as, check_as, crash_as, image_as, imaged_of, own_asked, own_of, set_as, stop_as, values_as, why_as};
+ghost use Rattle.conversations.specs.Asking.{all_as, asked_as, asked_of, asked_of_runs, as_asked, broken_as, check_as, crash_as, halting_as, halting_if, image_as, imaged_of, own_asked, own_of, set_as, stop_as, values_as, why_as};
 
 use crate::help::Word;
 use crate::line_fault::LineFault;
-use crate::own_words::{lone_in, worded_in};
+use crate::moment::Moment;
+use crate::own_words::{is_word, lone_in, worded_in};
 use commands::Fault;
 use debug_scripts::{
     BadRow, Command, ScriptRow, ValuesOrder, WatchOrder, before_comment, given_in, row_on,
@@ -21,15 +22,15 @@ use lines_layout::{Layout, WordId};
 use machine::Step;
 use outcomes::OrNoMemory;
 use std::alloc::Global;
-use text_tokens::Tokens;
+use text_tokens::{Tokens, small_number};
 
 /// What a line asks.
 #[derive(Drop)]
 pub enum Asked {
     /// A stop of this id, at this condition.
     Stop(u32, Cond),
-    /// A watch of a word.
-    Watch(WatchOrder),
+    /// A watch of a word, and whether it halts steps.
+    Watch(WatchOrder, bool),
     /// Whether a condition holds for all that crashes may leave in all runs from here.
     Check(Cond),
     /// Something that a session does without a box that is made for it.
@@ -61,8 +62,6 @@ pub enum Order {
     Reverse,
     /// The steps ahead.
     Ahead,
-    /// What the last step changed.
-    Changed,
     /// The program that each processor runs, and where it is.
     List,
     /// The steps that may come next.
@@ -81,12 +80,16 @@ pub enum Order {
     Set(Image),
     /// Which writes are missing in an image, and why each may be.
     Why(Image),
-    /// What leaves an image persists, and then there is a crash, unless a stop comes before.
+    /// What leaves an image persists, and then there is a crash, unless a stop or a break comes before.
     CrashTo(Image),
-    /// The lines that declared stops and watches.
+    /// The lines that declared stops, watches and breaks.
     Info,
-    /// The stop of this id is taken out, and the watch of it.
+    /// The stop of this id is taken out, the watch of it, and the break of it.
     Delete(u32),
+    /// A break of this id, which halts there.
+    Break(u32, Moment),
+    /// What the last step changed.
+    Changed,
     /// The notes of each watch.
     Notes,
     /// The steps that were made.
@@ -144,7 +147,7 @@ fn asked_as(
     match row {
         ScriptRow::Blank => Ok(Asked::Order(Order::Nothing)),
         ScriptRow::Stop(id, text) => stop_as(alloc, layout, id, text),
-        ScriptRow::Watch(id, word) => Ok(Asked::Watch(WatchOrder { id, word })),
+        ScriptRow::Watch(id, word) => Ok(Asked::Watch(WatchOrder { id, word }, false)),
         ScriptRow::Ask(word, tokens) => values_as(alloc, layout, word, tokens),
         ScriptRow::Do(command) => Ok(Asked::Order(Order::Script(command))),
     }
@@ -286,6 +289,39 @@ fn check_as(alloc: Global, layout: &Layout, text: &[u8]) -> Result<Asked, OrNoMe
     }
 }
 
+/// A watch of a word that halts, where nothing but `stop` is behind its id and its name.
+fn halting_if(is_stop: bool, id: u32, word: WordId) -> Result<Asked, LineFault>
+    ensures { result ≡ halting_if is_stop id word }
+{
+    if is_stop {
+        Ok(Asked::Watch(WatchOrder { id, word }, true))
+    } else {
+        Err(LineFault::BadLine)
+    }
+}
+
+/// What comes after `watch` asks, where the line is none of a script.
+#[tactic(auto, unfolding(crate::specs::Asking::halting_as))]
+fn halting_as(layout: &Layout, text: &[u8]) -> Result<Asked, LineFault>
+    ensures { result ≡ halting_as layout.now text.now }
+{
+    let (number, others) = split_piece(text);
+    let id = small_number(number).ok_or(LineFault::BadLine)?;
+    let (name, behind) = split_piece(others);
+    let word = layout.word(name).ok_or(LineFault::BadLine)?;
+    halting_if(is_word(behind, b"stop"), id, word)
+}
+
+/// The same, where there may be no memory.
+fn halting_in(layout: &Layout, text: &[u8]) -> Result<Asked, OrNoMemory<LineFault>>
+    ensures { Answers fault_in (halting_as layout.now text.now) result }
+{
+    match halting_as(layout, text) {
+        Ok(asked) => Ok(asked),
+        Err(fault) => Err(OrNoMemory::Fault(fault)),
+    }
+}
+
 /// What a line asks that orders something.
 fn ordered_in(alloc: Global, layout: &Layout, line: &[u8]) -> Result<Asked, OrNoMemory<LineFault>>
     ensures { Answers fault_in (as_asked (own_of layout.now line.now)) result }
@@ -304,6 +340,9 @@ fn own_asked(alloc: Global, layout: &Layout, line: &[u8]) -> Result<Asked, OrNoM
     let (first, behind) = split_piece(before_comment(line));
     if first == b"check".as_slice() {
         return check_as(alloc, layout, behind);
+    }
+    if first == b"watch".as_slice() {
+        return halting_in(layout, behind);
     }
     ordered_in(alloc, layout, line)
 }

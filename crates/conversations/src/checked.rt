@@ -6,8 +6,8 @@ ghost use Rattle.machine.specs.Objects.{opening};
 ghost use Rattle.machine.specs.Steps.{run_of};
 ghost use Rattle.conversations.specs.Checking.{ahead_found, found_text, question_of, reached, IsFound};
 
+use crate::waiting::Waiting;
 use commands::{Fault, machine_after};
-use debug_scripts::StepsAhead;
 use explore::laws::loaded_machines_are_sound;
 use explore::{ExploreFault, Question, Verdict, check};
 use images::Cond;
@@ -85,10 +85,10 @@ pub(crate) fn push_found(
 }
 
 /// These steps, gathered.
-fn gathered(alloc: Global, steps: &[Step]) -> Result<StepsAhead, AllocError>
+fn gathered(alloc: Global, steps: &[Step]) -> Result<Waiting, AllocError>
     ensures { IfOk result (λ ahead. ahead ≡ steps_ahead [] steps.now) }
 {
-    let mut ahead = StepsAhead::new(alloc);
+    let mut ahead = Waiting::new(alloc);
     for step in steps {
         ahead.gather(*step)?;
     }
@@ -98,7 +98,7 @@ fn gathered(alloc: Global, steps: &[Step]) -> Result<StepsAhead, AllocError>
 /// Puts the steps of a run that fails in the place of those ahead, where one was found.
 pub(crate) fn load(
     alloc: Global,
-    ahead: &mut StepsAhead,
+    ahead: &mut Waiting,
     found: &Result<Verdict, ExploreFault>,
 ) -> Result<(), AllocError>
     ensures { OnOk result (ahead.new ≡ ahead_found ahead.old found.now) }

@@ -3,7 +3,7 @@ ghost use Rattle.std.specs.Prelude.{◌≡◌, [], IfNone, IfSome, drop, slice_g
 ghost use Rattle.debug_scripts.specs.Ahead.{all_ahead, steps_ahead};
 
 use crate::declaration::Declaration;
-use debug_scripts::StepsAhead;
+use crate::waiting::Waiting;
 use machine::Step;
 use std::alloc::Global;
 
@@ -13,8 +13,8 @@ pub(crate) struct Desk {
     /// Where memory comes from.
     pub(crate) alloc: Global,
     /// The steps that are still to be made.
-    pub(crate) ahead: StepsAhead,
-    /// What declared the stops and watches that there are.
+    pub(crate) ahead: Waiting,
+    /// What declared the stops, watches and breaks that there are.
     pub(crate) declared: Vec<Declaration>,
 }
 
@@ -26,21 +26,21 @@ impl Desk {
     {
         Desk {
             alloc,
-            ahead: StepsAhead::new(alloc),
+            ahead: Waiting::new(alloc),
             declared: Vec::new(alloc),
         }
     }
 }
 
 /// The first of the steps ahead.
-fn first_ahead(ahead: &StepsAhead) -> Option<Step>
+fn first_ahead(ahead: &Waiting) -> Option<Step>
     ensures { result ≡ slice_get (all_ahead ahead.now) 0 }
 {
     ahead.all().first().copied()
 }
 
 /// Takes the first of the steps ahead, if there is one: it is ahead no longer.
-pub(crate) fn take_first(ahead: &mut StepsAhead) -> Option<Step>
+pub(crate) fn take_first(ahead: &mut Waiting) -> Option<Step>
     ensures first { result ≡ slice_get (all_ahead ahead.old) 0 }
     ensures taken { IfSome result (λ _. ahead.new ≡ steps_ahead (drop 1 (all_ahead ahead.old)) []) }
     ensures same { IfNone result (ahead.new ≡ ahead.old) }

@@ -12,8 +12,8 @@ pub(crate) enum Heard {
     Nothing,
     /// A line that declares a stop of this id, and its condition, twice.
     Stop(Line, u32, Cond, Cond),
-    /// A line that declares a watch of a word.
-    Watch(Line, WatchOrder),
+    /// A line that declares a watch of a word, and whether it halts steps.
+    Watch(Line, WatchOrder, bool),
     /// A line that asks a condition of all runs.
     Check(Line, Cond),
     /// Any other line: what it orders, or why it orders nothing.

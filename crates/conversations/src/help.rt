@@ -10,6 +10,7 @@ use std::alloc::AllocError;
 pub enum Word {
     Stop,
     Watch,
+    Break,
     Disarm,
     Detach,
     Info,
@@ -49,12 +50,13 @@ pub enum Word {
 }
 
 /// How many words begin a line.
-const COUNT: usize = 38;
+const COUNT: usize = 39;
 
 /// These words, in the order in which they are told.
 const WORDS: [Word; COUNT] = [
     Word::Stop,
     Word::Watch,
+    Word::Break,
     Word::Disarm,
     Word::Detach,
     Word::Info,
@@ -100,13 +102,16 @@ impl Word {
     {
         match self {
             Word::Stop => "stop ID COND        stops a go where COND holds after a step",
-            Word::Watch => "watch ID NAME       notes each write of a word",
+            Word::Watch =>
+                "watch ID NAME       notes each write of a word; with stop behind NAME it halts steps behind each, too, as a break does",
+            Word::Break =>
+                "break ID line N     halts steps behind one with which a processor comes to line N of the text; break ID crash where the power fails, break ID trap where a processor traps",
             Word::Disarm => "disarm ID           takes out a stop",
             Word::Detach => "detach ID           takes out a watch, with its notes",
             Word::Info =>
-                "info                prints the lines that declared the stops and watches that there are",
+                "info                prints the lines that declared the stops, watches and breaks that there are",
             Word::Delete =>
-                "delete ID           takes out the stop of this id, and the watch of it, whichever there is",
+                "delete ID           takes out the stop, the watch and the break of this id, whichever there is",
             Word::Exec => "exec P              for the next go: processor P runs an instruction",
             Word::Drain =>
                 "drain P I           for the next go: entry I of its store buffer leaves",
@@ -115,7 +120,7 @@ impl Word {
             Word::Settle =>
                 "settle              for the next go: the oldest marker leaves the pending list",
             Word::Crash =>
-                "crash               for the next go: the power fails, and recovery begins; crash V .. does so now, leaving these values, unless a stop comes before",
+                "crash               for the next go: the power fails, and recovery begins; crash V .. does so now, leaving these values, unless a stop or a break comes before",
             Word::Go => "go                  makes these steps",
             Word::Continue =>
                 "continue            makes the rest of them after a stop, or after one that was refused, and the steps after it",
@@ -124,11 +129,11 @@ impl Word {
             Word::Step =>
                 "step [STEP]         makes this step now, or the first of those that are ahead; the others stay",
             Word::Run =>
-                "run [N]             makes the first step of next, again and again, up to a stop or N steps, at most 1000",
+                "run [N]             makes the first step of next, again and again, up to a stop, a break or N steps, at most 1000",
             Word::Until =>
-                "until P PLACE       makes the first step of next, again and again, up to where processor P is at PLACE, a stop or 1000 steps",
+                "until P PLACE       makes the first step of next, again and again, up to where processor P is at PLACE, a stop, a break or 1000 steps",
             Word::Finish =>
-                "finish P            makes exec P now, again and again, up to a stop, a refusal or 1000 steps",
+                "finish P            makes exec P now, again and again, up to a stop, a break, a refusal or 1000 steps",
             Word::Next =>
                 "next                prints the steps that may be made now, and what each would do",
             Word::Number =>
@@ -140,7 +145,7 @@ impl Word {
             Word::Goto =>
                 "goto N              goes back to the state after the first N steps, as undo does; it never goes forward",
             Word::Reverse =>
-                "reverse             goes back, as undo does, to the last state behind in which a stop's condition holds, or to the beginning",
+                "reverse             goes back, as undo does, to the last state behind in which a stop's condition holds, or to the beginning; it knows no breaks",
             Word::Show => "show                prints the machine's state",
             Word::Changed =>
                 "changed             prints the lines of show that were not there before the last step",

@@ -2,12 +2,13 @@
 ghost use Rattle.std.specs.Prelude.{◌≡◌, ◌≤◌, codes, drop, length};
 ghost use Rattle.std.specs.List.{prefix_len};
 ghost use Rattle.debug_scripts.specs.ReadRows.{said};
-ghost use Rattle.conversations.specs.Asking.{delete_as, finish_as, gathered, goto_as, is_word, lone_number, lone_of, make_as, named_by, number_in, pick_as, print_as, processor_and_register, register_as, row_as, row_by_name, run_as, run_up_to, stands_before_colon, step_as, step_of, step_on, undo_as, undone, until_as, worded_of};
+ghost use Rattle.conversations.specs.Asking.{break_as, delete_as, finish_as, gathered, goto_as, is_word, line_as, lone_number, lone_of, make_as, moment_as, named_by, number_in, pick_as, print_as, processor_and_register, register_as, row_as, row_by_name, run_as, run_up_to, stands_before_colon, step_as, step_of, step_on, undo_as, undone, until_as, worded_of};
 
 use crate::asked::Order;
 use crate::eager::MOST_STEPS;
 use crate::help::Word;
 use crate::line_fault::LineFault;
+use crate::moment::Moment;
 use debug_scripts::{BadRow, Command, ScriptRow, before_comment, row_on, split_piece};
 use isa::Reg;
 use lines_layout::{Layout, WordId};
@@ -253,7 +254,7 @@ fn pick_as(piece: &[u8], behind: &[u8]) -> Result<Order, LineFault>
 }
 
 /// Whether a line is this word alone.
-fn is_word(line: &[u8], word: &[u8]) -> bool
+pub(crate) fn is_word(line: &[u8], word: &[u8]) -> bool
     ensures { result ≡ is_word line.now word.now }
 {
     let (first, behind) = split_piece(before_comment(line));
@@ -265,6 +266,44 @@ pub(crate) fn is_quit(line: &[u8]) -> bool
     ensures { result ≡ is_word line.now (codes "quit") }
 {
     is_word(line, b"quit")
+}
+
+/// Where a break halts on a line, by what comes after `line`.
+#[tactic(auto, unfolding(crate::specs::Asking::line_as))]
+fn line_as(behind: &[u8]) -> Result<Moment, LineFault>
+    ensures { result ≡ line_as behind.now }
+{
+    let line = lone_number(behind)?;
+    Ok(Moment::Line(line))
+}
+
+/// Where a break halts, by what comes after its id.
+fn moment_as(text: &[u8]) -> Result<Moment, LineFault>
+    ensures { result ≡ moment_as text.now }
+{
+    if is_word(text, b"crash") {
+        return Ok(Moment::Crash);
+    }
+    if is_word(text, b"trap") {
+        return Ok(Moment::Trap);
+    }
+    let (word, behind) = split_piece(text);
+    if word == b"line".as_slice() {
+        line_as(behind)
+    } else {
+        Err(LineFault::BadLine)
+    }
+}
+
+/// What comes after `break` orders.
+#[tactic(auto, unfolding(crate::specs::Asking::break_as))]
+fn break_as(behind: &[u8]) -> Result<Order, LineFault>
+    ensures { result ≡ break_as behind.now }
+{
+    let (number, others) = split_piece(behind);
+    let id = small_number(number).ok_or(LineFault::BadLine)?;
+    let moment = moment_as(others)?;
+    Ok(Order::Break(id, moment))
 }
 
 /// What a line orders that is one word alone, if it is such a word.
@@ -316,6 +355,8 @@ pub(crate) fn worded_in(layout: &Layout, first: &[u8], behind: &[u8]) -> Result<
         print_as(layout, behind)
     } else if first == b"delete".as_slice() {
         delete_as(behind)
+    } else if first == b"break".as_slice() {
+        break_as(behind)
     } else if first == b"help".as_slice() {
         row_as(behind)
     } else {

@@ -54,7 +54,7 @@ fn read(alloc: Global, layout: &Layout, line: Line) -> Result<Heard, TalkFault>
                 Err(TalkFault::NoMemory)
             }
         },
-        Ok(Asked::Watch(order)) => Ok(Heard::Watch(line, order)),
+        Ok(Asked::Watch(order, halts)) => Ok(Heard::Watch(line, order, halts)),
         Ok(Asked::Check(cond)) => Ok(Heard::Check(line, cond)),
         Ok(Asked::Order(order)) => Ok(Heard::Other(line, Ok(order))),
         Err(OrNoMemory::Fault(fault)) => Ok(Heard::Other(line, Err(fault))),
@@ -138,7 +138,7 @@ fn watched(id: u32, word: WordId, watcher: Box<dyn Watcher>) -> Attached
     Attached { id, watcher }
 }
 
-/// Attaches a watcher of a word that a line declares, and answers the line. Whether there may be more.
+/// Attaches a watcher of a word that a line declares, which may halt steps, and answers the line. Whether there may be more.
 ///
 /// # Errors
 ///
@@ -150,16 +150,17 @@ fn reply_watch<T: Terminal>(
     line: Line,
     attached: Attached,
     word: WordId,
+    halts: bool,
 ) -> Result<bool, TalkFault>
     requires ready { T.is_ready terminal.old }
     requires watches { watch_by meaning_of attached ≡ watch attached.id (meaning [] (word_selection word)) }
-    ensures went { Replies (T.went terminal.old terminal.new) (watched_at (place_by meaning_of session.old desk.old) line.bytes.items attached.id word)
+    ensures went { Replies (T.went terminal.old terminal.new) (watched_at (place_by meaning_of session.old desk.old) line.bytes.items attached.id word halts)
         (place_by meaning_of session.new desk.new) (may_go_on line.is_fed line.bytes.items) result }
     ensures ready { OnOk result (T.is_ready terminal.new) }
     ensures shape { OnOk result (KeepsShape (session_value meaning_of session.old) (session_value meaning_of session.new)) }
 {
     let mut text = String::new(desk.alloc);
-    match attach(session, desk, &mut text, &line, attached, word) {
+    match attach(session, desk, &mut text, &line, attached, word, halts) {
         Ok(()) => tell(terminal, &line, text.as_bytes()),
         Err(_) => Err(TalkFault::NoMemory),
     }
@@ -289,7 +290,7 @@ pub(crate) fn talk<T: Terminal>(
                 }
                 Err(_) => Err(TalkFault::NoMemory),
             },
-            Ok(Heard::Watch(line, order)) => match Box::new(
+            Ok(Heard::Watch(line, order, halts)) => match Box::new(
                 alloc,
                 WordWatch::new(alloc, order.word),
             ) {
@@ -300,6 +301,7 @@ pub(crate) fn talk<T: Terminal>(
                     line,
                     watched(order.id, order.word, watcher),
                     order.word,
+                    halts,
                 ),
                 Err(_) => Err(TalkFault::NoMemory),
             },

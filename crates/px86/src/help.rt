@@ -184,16 +184,18 @@ With this in the file `script`:
   px86 debug --steps script store-buffering.litmus
 
 With --interactive each line is answered before the next is read. Stops and watches may come at any time. There are also:
+  break ID line N     halts steps behind one with which a processor comes to line N of the text; break ID crash where the power fails, break ID trap where a processor traps
+  watch ID NAME stop  notes each write of a word, and halts steps behind it, as a break does
   ahead               prints the steps that wait for go or continue, as a list of steps
   step [STEP]         makes this step now, or the first of those that are ahead; the others stay
-  run [N]             makes the first step of next, again and again, up to a stop or N steps, at most 1000
-  until P PLACE       makes the first step of next, again and again, up to where processor P is at PLACE, a stop or 1000 steps
-  finish P            makes exec P now, again and again, up to a stop, a refusal or 1000 steps
+  run [N]             makes the first step of next, again and again, up to a stop, a break or N steps, at most 1000
+  until P PLACE       makes the first step of next, again and again, up to where processor P is at PLACE, a stop, a break or 1000 steps
+  finish P            makes exec P now, again and again, up to a stop, a break, a refusal or 1000 steps
   next                prints the steps that may be made now, and what each would do
   K                   makes the step that next has under this number, as step does; the numbers begin at 0
   undo [N]            goes back before the last step, or before the last N, and forgets what was noted of them
   goto N              goes back to the state after the first N steps, as undo does; it never goes forward
-  reverse             goes back, as undo does, to the last state behind in which a stop's condition holds, or to the beginning
+  reverse             goes back, as undo does, to the last state behind in which a stop's condition holds, or to the beginning; it knows no breaks
   changed             prints the lines of show that were not there before the last step
   list                prints the program that each processor runs, with > before the place where it is
   print NAME          prints the values of a word; print P:REG the value of a register
@@ -202,9 +204,9 @@ With --interactive each line is answered before the next is read. Stops and watc
   set V ..            prints which pending entries leave these values, one for each word, as images --set does
   why V ..            says which writes are missing where a crash leaves these values, and why each may be, as images --set --explain-image does
   check COND          asks COND of all that crashes may leave in all runs from here, as px86 check --all does; a run that fails is ahead then
-  crash V ..          the power fails now, and leaves these values, unless a stop comes before; recovery begins
-  info                prints the lines that declared the stops and watches that there are
-  delete ID           takes out the stop of this id, and the watch of it, whichever there is
+  crash V ..          the power fails now, and leaves these values, unless a stop or a break comes before; recovery begins
+  info                prints the lines that declared the stops, watches and breaks that there are
+  delete ID           takes out the stop, the watch and the break of this id, whichever there is
   notes               prints the notes of each watch
   history             prints the steps that led here, as a list of steps
   help [WORD]         prints these lines, or that of a word

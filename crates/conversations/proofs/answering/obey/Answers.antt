@@ -1,23 +1,22 @@
-use Rattle.conversations.proofs.AnswersGiven.{beside}
 use Rattle.conversations.proofs.answering.obey.Goals as goal
 
 pub returns-in-Make-clause-answers : goal.returns-in-Make-clause-answers
-returns-in-Make-clause-answers g c = rw c.in-Make.is (beside _ c.make.result c.args.desk.now.ahead c.args.desk.now.declared.items c.make.ensures.answers)
+returns-in-Make-clause-answers g c = rw c.in-Make.is c.make.ensures.answers
 
 pub returns-in-Pick-clause-answers : goal.returns-in-Pick-clause-answers
-returns-in-Pick-clause-answers g c = rw c.in-Pick.is (beside _ c.pick.result c.args.desk.now.ahead c.args.desk.now.declared.items c.pick.ensures.answers)
+returns-in-Pick-clause-answers g c = rw c.in-Pick.is c.pick.ensures.answers
 
 pub returns-in-Run-clause-answers : goal.returns-in-Run-clause-answers
-returns-in-Run-clause-answers g c = rw c.in-Run.is (beside _ c.run.result c.args.desk.now.ahead c.args.desk.now.declared.items c.run.ensures.answers)
+returns-in-Run-clause-answers g c = rw c.in-Run.is c.run.ensures.answers
 
 pub returns-in-Until-clause-answers : goal.returns-in-Until-clause-answers
-returns-in-Until-clause-answers g c = rw c.in-Until.is (beside _ c.until.result c.args.desk.now.ahead c.args.desk.now.declared.items c.until.ensures.answers)
+returns-in-Until-clause-answers g c = rw c.in-Until.is c.until.ensures.answers
 
 pub returns-in-CrashTo-clause-answers : goal.returns-in-CrashTo-clause-answers
-returns-in-CrashTo-clause-answers g c = rw c.in-CrashTo.is (beside _ c.crash_to.result c.args.desk.now.ahead c.args.desk.now.declared.items c.crash_to.ensures.answers)
+returns-in-CrashTo-clause-answers g c = rw c.in-CrashTo.is c.crash_to.ensures.answers
 
 pub returns-in-Finish-clause-answers : goal.returns-in-Finish-clause-answers
-returns-in-Finish-clause-answers g c = rw c.in-Finish.is (beside _ c.finish.result c.args.desk.now.ahead c.args.desk.now.declared.items c.finish.ensures.answers)
+returns-in-Finish-clause-answers g c = rw c.in-Finish.is c.finish.ensures.answers
 
 pub returns-in_ok-take_back-in-Undo-clause-answers : goal.returns-in_ok-take_back-in-Undo-clause-answers
 returns-in_ok-take_back-in-Undo-clause-answers g c = rw c.in-Undo.is (c.in_ok-take_back-in-Undo.ensures.answers c.args.desk.now.ahead c.args.desk.now.declared.items)

@@ -86,7 +86,7 @@ watch_turned g c =
     let old = session c.loop-turn.session.past (map (λ t. armed t.id t.cond) c.loop-turn.session.stops.items) (map (λ w. watch w.id ((own-2.entry w.watcher.vtable).1.meaning_of w.watcher.value)) c.loop-turn.session.watchers.items) in
     let new = session c.reply_watch.new.session.past (map (λ t. armed t.id t.cond) c.reply_watch.new.session.stops.items) (map (λ w. watch w.id ((own-2.entry w.watcher.vtable).1.meaning_of w.watcher.value)) c.reply_watch.new.session.watchers.items) in
     let heard = rw c.in-Ok-Watch.field-0-is at c.in-Ok-Watch.ensures.went in
-    watch_answered g.T.Terminal.went g.met.T.Terminal.both c.args.lined.now c.loop-turn.terminal c.ask.new.terminal c.reply_watch.new.terminal (place old c.loop-turn.desk.ahead c.loop-turn.desk.declared.items) (place new c.reply_watch.new.desk.ahead c.reply_watch.new.desk.declared.items) c.loop-turn.left c.ask.new.left c.in-Ok-Watch.line c.in-Ok-Watch.order c.watched.result.id c.reply_watch.result
+    watch_answered g.T.Terminal.went g.met.T.Terminal.both c.args.lined.now c.loop-turn.terminal c.ask.new.terminal c.reply_watch.new.terminal (place old c.loop-turn.desk.ahead c.loop-turn.desk.declared.items) (place new c.reply_watch.new.desk.ahead c.reply_watch.new.desk.declared.items) c.loop-turn.left c.ask.new.left c.in-Ok-Watch.line c.in-Ok-Watch.order c.in-Ok-Watch.halts c.watched.result.id c.reply_watch.result
     heard.0 heard.1 c.watched.ensures.id c.reply_watch.ensures.went
 
 pub loop-turn-smaller-in-Ok-new-2 : goal.loop-turn-smaller-in-Ok-new-2
