@@ -1,1 +1,2 @@
+pub mod EndsAsLines
 pub mod RepliesAsValues
