@@ -114,7 +114,7 @@ def one_fence_told(program: Program, site: Site, options: Namespace) -> str:
 
 
 # All larger sets are tried where they are so few; otherwise, where no more than this, the sets of one more of what can go alone.
-FEW_SETS, MOST_SETS = 64, 1000
+FEW_SETS, MOST_SETS = 64, 100
 
 
 def sets_larger(needs: dict[Site, str], alone: list[Site], most: int) -> Iterator[tuple[Site, ...]]:

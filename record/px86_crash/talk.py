@@ -181,7 +181,7 @@ class Talk:
 
 def can_be_said(condition: str) -> bool:
     """Whether it is one line, of which nothing is a comment. Of others px86 has none that it takes."""
-    return "#" not in condition and all(" " <= letter <= "~" or letter == "\t" for letter in condition)
+    return "#" not in condition and all(" " <= letter <= "~" or letter in "\t\r" for letter in condition)
 
 
 def at_once(lines: Sequence[str]) -> Iterator[Sequence[str]]:

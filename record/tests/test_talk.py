@@ -90,8 +90,8 @@ class Talking(unittest.TestCase):
 
     def test_which_conditions_can_be_said(self) -> None:
         """In a line a comment begins with `#`: so what stands behind it would not be asked of."""
-        self.assertTrue(can_be_said("not (persisted w0 = 1\tor persisted w8 != 0x2)"))
-        for behind in " # and persisted w8 = 1", "\nquit", "\r", " or persisted w\u00f8 = 1":
+        self.assertTrue(can_be_said("not (persisted w0 = 1\tor persisted w8 != 0x2)\r"))
+        for behind in " # and persisted w8 = 1", "\nquit", "\x0b", " or persisted w\u00f8 = 1":
             self.assertFalse(can_be_said(f"persisted w0 = 1{behind}"), behind)
 
     def test_words(self) -> None:

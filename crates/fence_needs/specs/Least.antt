@@ -98,10 +98,10 @@ choices (suc n) (site ∷ sites) = choices n sites + choices (suc n) sites
 
 -- how many programs are tried at most
 abbrev pub most_choices : ℕ
-most_choices = 1000
+most_choices = 100
 
--- That no larger number can go than those that are left out is so, where it is said. Where it is not said, then not of all needs is it told, or one has no
--- address; or what is asked may hold without one more of those without which alone it holds; or there are too many choices of these.
+-- That no larger number can go than those that are left out is so, where it is said. Where it is not said, then it is not told of all needs, or one is a flush of a word that a register
+-- names; or what is asked may hold without one more of those without which alone it holds; or there are too many choices of these.
 abbrev pub IsSaidOfLeast : Question → ℕ → Object → List SiteNeed → Bool → Type 0
 IsSaidOfLeast question limit object needs true = IsMost question object (length (left_out needs))
 IsSaidOfLeast question limit object needs false =

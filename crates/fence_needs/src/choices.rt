@@ -17,7 +17,7 @@ use verdicts::verdict_on;
 use workers::Gate;
 
 /// How many programs are tried at most by [`is_least`].
-pub const MOST_CHOICES: u64 = 1_000;
+pub const MOST_CHOICES: u64 = 100;
 
 /// Whether what is asked holds without an instruction alone.
 fn goes_alone(need: &Need) -> bool

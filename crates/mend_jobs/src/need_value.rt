@@ -1,12 +1,12 @@
 //! What flushes and fences are needed for, as JSON.
 ghost use Rattle.std.specs.Prelude.{◌≡◌, IfOk, None, OnOk, Some, [], ◌∷◌, map, option_copied};
-ghost use Rattle.json_texts.specs.Objects.{list, or_null, GetsFields, IsJsonOf, Tree};
+ghost use Rattle.json_texts.specs.Objects.{boolean, list, num, or_null, GetsFields, IsJsonOf, Tree};
 ghost use Rattle.json_texts.specs.StateData.{where_data};
 ghost use Rattle.jobs.specs.CheckReports.{holding};
 ghost use Rattle.mend_jobs.specs.NeedData.{alone_name, broken_data, conditions_data, each_data, fault_data, fault_shown, fences_data, held_data, last_fields, need_data, need_name, one_data, run_data, run_fields, run_shown, said_data, said_fault, said_name, said_run, site_head, source_of, stands, weaker_data, weaker_head};
 
 use crate::asked_program::AskedProgram;
-use crate::fences_found::{FencesFound, NeedsTold};
+use crate::fences_found::FencesFound;
 use crate::need_text::{fault_number, kept};
 use explore::{ExploreFault, Failure, Findings, Question};
 use fence_needs::{Need, SiteNeed, Weaker, WeakerSaid, no_more_can_go};
@@ -391,20 +391,20 @@ fn held_value(
     })
 }
 
-/// What holds of a program, and what is told of each of its flushes and fences.
-fn each_value(
+/// The same, with counts and answers as they are.
+fn counted_value(
     alloc: Global,
-    asked: &AskedProgram,
-    found: &Findings,
-    told: &NeedsTold,
+    conditions: Value,
+    words: Value,
+    fences: Value,
+    keep: u64,
+    of: u64,
+    no_more: bool,
+    least: bool,
 ) -> Result<Value, AllocError>
-    ensures { IfOk result (IsJsonOf (each_data asked.now found.now told.now.needs.items told.now.least)) }
+    ensures { (c w f : Tree) → IsJsonOf c conditions → IsJsonOf w words → IsJsonOf f fences
+        → IfOk result (IsJsonOf (held_data c w f (num keep) (num of) (boolean no_more) (boolean least))) }
 {
-    let conditions = conditions_value(alloc, &asked.question, found)?;
-    let words = names_value(alloc, asked.object.layout())?;
-    let needs = &told.needs;
-    let fences = needs_value(alloc, &source_of(asked), needs)?;
-    let (keep, of) = (kept(needs) as u64, needs.len() as u64);
     held_value(
         alloc,
         conditions,
@@ -412,9 +412,27 @@ fn each_value(
         fences,
         Value::from(keep),
         Value::from(of),
-        Value::from(no_more_can_go(needs)),
-        Value::from(told.least),
+        Value::from(no_more),
+        Value::from(least),
     )
+}
+
+/// What holds of a program, and what is told of each of its flushes and fences.
+fn each_value(
+    alloc: Global,
+    asked: &AskedProgram,
+    found: &Findings,
+    needs: &[SiteNeed],
+    least: bool,
+) -> Result<Value, AllocError>
+    ensures { IfOk result (IsJsonOf (each_data asked.now found.now needs.now least)) }
+{
+    let conditions = conditions_value(alloc, &asked.question, found)?;
+    let words = names_value(alloc, asked.object.layout())?;
+    let fences = needs_value(alloc, &source_of(asked), needs)?;
+    let (keep, of) = (kept(needs) as u64, needs.len() as u64);
+    let no_more = no_more_can_go(needs);
+    counted_value(alloc, conditions, words, fences, keep, of, no_more, least)
 }
 
 /// What holds of a program, and what is told of one of its flushes and fences.
@@ -451,7 +469,7 @@ pub(crate) fn fences_value(
 {
     match found {
         FencesFound::Broken(failure) => broken_value(alloc, asked, failure),
-        FencesFound::Each(found, told) => each_value(alloc, asked, found, told),
+        FencesFound::Each(found, told) => each_value(alloc, asked, found, &told.needs, told.least),
         FencesFound::One(found, one) => one_value(alloc, asked, found, one),
     }
 }

@@ -303,6 +303,14 @@ abbrev pub IsTallyJob : List Row → ScheduleJob → Type 0
 IsTallyJob rows job =
     IsTallyOf (first_of (codes "all") rows) (first_of (codes "ends") rows) (first_of (codes "recovered") rows) job × AreSchedules rows (schedules_run job)
 
+-- whether a parse of `debug` found that a conversation is asked for, and JSON, in which it does not answer
+abbrev pub talks_in_json : List Row → Bool
+talks_in_json rows = is_given (codes "interactive") rows && is_given (codes "json") rows
+
+-- A parse of `debug` found that it asks for this, and not for both.
+abbrev pub IsDebugTask : List Row → Task → Type 0
+IsDebugTask rows task = (talks_in_json rows ≡ false) × (task ≡ tasks.Debug)
+
 -- A task is made of something with the property.
 abbrev pub IsMadeOf : {A : Type 0} → (A → Task) → (A → Type 0) → Task → Type 0
 IsMadeOf {A} make P task = (asked : A) × P asked × (task ≡ make asked)
@@ -315,7 +323,7 @@ IsTaskOf Run rows task = task ≡ Do jobs.Run
 IsTaskOf Trace rows task = IsMadeOf (λ options. Do (jobs.Trace options)) (AreTraceOptions rows) task
 IsTaskOf Next rows task = IsMadeOf (λ options. Do (jobs.Next options)) (AreNextOptions rows) task
 IsTaskOf Law rows task = task ≡ Do jobs.Law
-IsTaskOf Debug rows task = task ≡ tasks.Debug
+IsTaskOf Debug rows task = IsDebugTask rows task
 IsTaskOf Images rows task = IsMadeOf Do (IsImagesJob rows) task
 IsTaskOf Replay rows task = IsMadeOf (λ options. Do (jobs.Replay options)) (IsSchedule rows) task
 IsTaskOf Check rows task = IsMadeOf (λ options. tasks.Check options) (AreCheckOptions rows) task

@@ -69,7 +69,7 @@ row_of Run = row (codes "run") reads.Steps (flag (codes "json") ∷ [])
 row_of Trace = row (codes "trace") reads.Steps (flag (codes "states") ∷ flag (codes "json") ∷ [])
 row_of Next = row (codes "next") reads.Steps (flag (codes "refused") ∷ flag (codes "states") ∷ flag (codes "json") ∷ [])
 row_of Law = row (codes "law") reads.Steps (flag (codes "json") ∷ [])
-row_of Debug = row (codes "debug") reads.Script (flag (codes "interactive") ∷ [])
+row_of Debug = row (codes "debug") reads.Script (flag (codes "interactive") ∷ flag (codes "json") ∷ [])
 row_of Images = row (codes "images") reads.Steps
     (flag (codes "count") ∷ flag (codes "names") ∷ value (codes "all") ∷ value (codes "some") ∷ value (codes "set")
     ∷ flag (codes "explain-image") ∷ flag (codes "json") ∷ [])

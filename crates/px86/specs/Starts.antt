@@ -23,6 +23,7 @@ use Rattle.json_jobs.specs.JsonAnswers.{json_command_of}
 use Rattle.json_jobs.specs.RunReports as json_runs
 use Rattle.json_jobs.specs.JsonForm.{json_reports}
 use Rattle.json_jobs.specs.LiveData.{json_journals}
+use Rattle.json_scripts.specs.DebugData as json_scripts
 use Rattle.mend_jobs.specs.FencesCommand.{fences_command}
 use Rattle.mend_jobs.specs.MendCommand.{mend_command}
 use Rattle.mend_jobs.specs.TextReports as mend_texts
@@ -51,12 +52,12 @@ lines_command moves (Outcomes options) = outcomes_command options
 lines_command moves (Fences options) = fences_command mend_texts.text_reports options
 lines_command moves (Mend options) = mend_command mend_texts.text_reports moves options
 
--- the command of a task whose report is JSON; where it has none, it is in lines
+-- the command of a task whose report is JSON; that of `asm` and `dis` is none
 abbrev pub json_command : Bool → Task → Command
 json_command moves (Do job) = json_command_of job
 json_command moves (Schedules job) = work_command json_reports job
 json_command moves (Live threads) = live_command json_journals threads
-json_command moves Debug = debug_command
+json_command moves Debug = json_scripts.debug_command
 json_command moves (Check options) = json_runs.check_command options
 json_command moves (Outcomes options) = json_runs.outcomes_command options
 json_command moves (Fences options) = fences_command mend_data.json_reports options

@@ -425,10 +425,13 @@ const DEBUG: &CommandRow = &CommandRow {
     name: "debug",
     about: "Play a script: stops, watches, steps back",
     reads: Reads::Script,
-    options: &[flag!(
-        "interactive",
-        "Answer each line of the standard input before the next is read"
-    )],
+    options: &[
+        flag!(
+            "interactive",
+            "Answer each line of the standard input before the next is read"
+        ),
+        JSON,
+    ],
     more: help::SCRIPTS,
 };
 

@@ -4,7 +4,7 @@ use crate::arguments::command_line;
 use crate::command::{Bound, Command, CommandOption};
 use crate::options::{
     asks_ends, count, demand_of, has_condition, has_value, is_given, lacks_condition, lacks_image,
-    lacks_recovery, lacks_states, number, only_of, small_number, value,
+    lacks_recovery, lacks_states, number, only_of, small_number, talks_in_json, value,
 };
 use clap::error::ErrorKind;
 use clap::{ArgMatches, Error};
@@ -188,9 +188,11 @@ fn hunt_clash(matches: &ArgMatches<'_>) -> Option<&'static str> {
     image_clash(matches).or(lazy_clash(matches))
 }
 
-/// What is said where a conversation is asked for, and a script from elsewhere.
-fn input_clash(matches: &ArgMatches<'_>) -> Option<&'static str> {
-    if is_given(matches, "interactive") {
+/// What is said where a conversation is asked for, and JSON, or a script from elsewhere.
+fn talk_clash(matches: &ArgMatches<'_>) -> Option<&'static str> {
+    if talks_in_json(matches) {
+        Some("--interactive may not be given with --json: it answers in lines")
+    } else if is_given(matches, "interactive") {
         Some(
             "--interactive may not be given with --steps or --no-steps: it reads the standard input",
         )
@@ -209,7 +211,7 @@ fn clash(command: Command, matches: &ArgMatches<'_>) -> Option<&'static str> {
         Command::Trace | Command::Next if lacks_states(matches) => {
             Some("--states needs --json: the report in lines has no states")
         }
-        Command::Debug => input_clash(matches),
+        Command::Debug => talk_clash(matches),
         Command::Replay => lazy_clash(matches),
         Command::Tally => tally_clash(matches),
         Command::Hunt => hunt_clash(matches),

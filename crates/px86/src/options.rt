@@ -3,7 +3,7 @@ ghost use Rattle.std.specs.Prelude.{◌≡◌, ◌^◌, ◌&&◌, not, option_co
 ghost use Rattle.std.specs.List.{starts_with};
 ghost use Rattle.std.specs.Prelude.{codes, nat_eq};
 ghost use Rattle.clap.specs.Words.{first_of, found_of, rows_of};
-ghost use Rattle.px86.specs.CommandLines.{asks_beyond, asks_beyond_lazy, asks_ends, asks_of_all, asks_persisted, default_length, default_states, has_condition, has_question, has_value, is_given, lacks_condition, lacks_image, lacks_recovery, lacks_states, millions_of, AreCheckOptions, AreHuntOptions, AreNextOptions, AreOptions, AreOutcomesOptions, AreSchedules, AreTraceOptions, Finds, IsCountOr, IsDemand, IsImagesJob, IsNumberIfAny, IsNumberOr, IsPlan, IsSchedule, IsSiteIfAny, IsTallyJob, IsThreadCount, IsThreadCountOr, IsWorkerCount, Spells, SpellsCount};
+ghost use Rattle.px86.specs.CommandLines.{asks_beyond, asks_beyond_lazy, asks_ends, asks_of_all, asks_persisted, default_length, default_states, has_condition, has_question, has_value, is_given, lacks_condition, lacks_image, lacks_recovery, lacks_states, millions_of, talks_in_json, AreCheckOptions, AreHuntOptions, AreNextOptions, AreOptions, AreOutcomesOptions, AreSchedules, AreTraceOptions, Finds, IsCountOr, IsDemand, IsImagesJob, IsNumberIfAny, IsNumberOr, IsPlan, IsSchedule, IsSiteIfAny, IsTallyJob, IsThreadCount, IsThreadCountOr, IsWorkerCount, Spells, SpellsCount};
 
 use crate::command::{
     CRASH_AFTER, CommandOption, FIRST, LENGTH, MENDERS, NUMBER, RUNS, SEED, STATES, THREADS,
@@ -306,6 +306,15 @@ pub(crate) fn lacks_states(matches: &ArgMatches<'_>) -> bool
     let states = is_given(matches, "states");
     let json = is_given(matches, "json");
     states && !json
+}
+
+/// Whether a conversation is asked for, and JSON, in which it does not answer.
+pub(crate) fn talks_in_json(matches: &ArgMatches<'_>) -> bool
+    ensures { result ≡ talks_in_json (rows_of (found_of matches.now)) }
+{
+    let interactive = is_given(matches, "interactive");
+    let json = is_given(matches, "json");
+    interactive && json
 }
 
 /// What a parse found that `trace` is asked.

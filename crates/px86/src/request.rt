@@ -5,7 +5,7 @@ ghost use Rattle.std.specs.String.{string_bytes};
 ghost use Rattle.clap.specs.Simple.{subcommand_rows_of};
 ghost use Rattle.clap.specs.Words.{fault_of, first_of, found_of, rows_of, HasMatchesOf};
 ghost use Rattle.px86.specs.Commands.{command_line};
-ghost use Rattle.px86.specs.CommandLines.{declined_of, is_explain, form_of, is_given, Asks, AsksFor, AsksIn, Finds, HasForm, HasFormIn, HasMoves, HasMovesIn, HasProgress, HasProgressIn, IsDeclinedFor, IsInput, IsInputOf, IsRefusedFor, IsScript, IsTaskOf};
+ghost use Rattle.px86.specs.CommandLines.{declined_of, is_explain, form_of, is_given, Asks, AsksFor, AsksIn, Finds, HasForm, HasFormIn, HasMoves, HasMovesIn, HasProgress, HasProgressIn, IsDebugTask, IsDeclinedFor, IsInput, IsInputOf, IsRefusedFor, IsScript, IsTaskOf};
 ghost use Rattle.px86.specs.Starts.{is_console, is_standard};
 ghost use Rattle.px86.specs.declared.request.Declined.TheVariants.{NoMemory};
 
@@ -14,7 +14,7 @@ use crate::asked_runs::{fences_options, mend_options};
 use crate::command::{Command, Reads};
 use crate::options::{
     check_options, hunt_options, images_job, is_given, live_count, next_options, outcomes_options,
-    replay_options, tally_job, trace_options, value, worker_count,
+    replay_options, talks_in_json, tally_job, trace_options, value, worker_count,
 };
 use clap::error::ErrorKind;
 use clap::{ArgMatches, Error};
@@ -135,6 +135,16 @@ fn ways_of(matches: &ArgMatches<'_>) -> Ways
     }
 }
 
+/// What `debug` is asked, where it is not asked for a conversation in JSON.
+fn debug_task<'a>(matches: &ArgMatches<'a>) -> Option<Task<'a>>
+    ensures { Finds (IsDebugTask (rows_of (found_of matches.now))) result }
+{
+    if talks_in_json(matches) {
+        return None;
+    }
+    Some(Task::Debug)
+}
+
 /// What a command is asked, with the options that a parse found.
 fn task_of<'a>(command: Command, matches: &ArgMatches<'a>) -> Option<Task<'a>>
     ensures { Finds (IsTaskOf command (rows_of (found_of matches.now))) result }
@@ -146,7 +156,7 @@ fn task_of<'a>(command: Command, matches: &ArgMatches<'a>) -> Option<Task<'a>>
         Command::Next => Some(Task::Do(Job::Next(next_options(matches)?))),
         Command::Trace => Some(Task::Do(Job::Trace(trace_options(matches)?))),
         Command::Law => Some(Task::Do(Job::Law)),
-        Command::Debug => Some(Task::Debug),
+        Command::Debug => debug_task(matches),
         Command::Images => Some(Task::Do(images_job(matches)?)),
         Command::Replay => Some(Task::Do(Job::Replay(replay_options(matches)?))),
         Command::Check => Some(Task::Check(check_options(matches)?)),

@@ -111,7 +111,7 @@ fn do_on_devices<
     }
 }
 
-/// The same, and the report is JSON, where the command has it so.
+/// The same, and the report is JSON, where the command has one.
 fn do_as_json<
     R: Threads + Wait + Sync,
     P: Source,
@@ -169,7 +169,7 @@ fn do_as_json<
         Task::Live(threads) => {
             share::<JsonReports, R, P, S, W>(resources.rt, alloc, *threads, program, steps, out)
         }
-        Task::Debug => do_on_devices(resources, ways, task, program, steps, out),
+        Task::Debug => json_scripts::debug(alloc, program, steps, out),
     }
 }
 

@@ -1,0 +1,2 @@
+pub mod DebugData
+pub mod Headed
