@@ -1,17 +1,16 @@
 -- Breaks halt where they say.
-use Rattle.std.proofs.Common.{◌≡◌, ℕ, zero, suc, ◌+◌, ◌-◌, ◌<◌, ◌≤◌, List, [], ◌∷◌, ◌++◌, length, take, drop, Bool, true, false, Option, Some, None, Result, Ok, Err, refl, sym, ◌∙◌, ap, subst, arith, inl, inr}
+use Rattle.std.proofs.Common.{◌≡◌, ℕ, zero, suc, ◌+◌, ◌-◌, ◌<◌, List, [], ◌∷◌, ◌++◌, length, take, Bool, true, false, Option, Some, None, Result, Ok, Err, refl, sym, ◌∙◌, ap, subst, arith, inl, inr}
 use Rattle.std.proofs.lemmas.Bool.{cases_Bool}
 use Rattle.std.proofs.lemmas.List.{length-take-le, take_all}
-use Rattle.std.specs.Prelude.{if◌then◌else◌, is_some, slice_get}
+use Rattle.std.specs.Prelude.{if◌then◌else◌, is_some}
 use Rattle.std.specs.List.{filter}
 use Rattle.litmus_text.specs.declared.text_lines.LinedObject.{LinedObject}
 use Rattle.machine.specs.State.{State}
-use Rattle.machine.specs.Steps.{End, run_of, step_of}
+use Rattle.machine.specs.Steps.{run_of, step_of}
 use Rattle.machine.specs.declared.refusal.Refusal.{Refusal}
 use Rattle.machine.specs.declared.step.Seen.{Seen}
 use Rattle.machine.specs.declared.step.Step.{Step}
 use Rattle.debugger.specs.Halts.{halt_of}
-use Rattle.debugger.specs.Pasts.{AreAccepted}
 use Rattle.debugger.specs.declared.halt.Halt.{Halt}
 use Rattle.debugger.specs.declared.halt.Halt.TheVariants as halts
 use Rattle.debug_scripts.specs.Ahead.{all_ahead}
@@ -21,10 +20,10 @@ use Rattle.debug_scripts.specs.declared.orders.Command.TheVariants as commands
 use Rattle.conversations.specs.declared.breaks.Cut.{Cut}
 use Rattle.conversations.specs.declared.declaration.Kind.{Kind}
 use Rattle.conversations.specs.declared.moment.Moment.{Moment}
-use Rattle.conversations.specs.Answered.{Answer, Place, answer, followed_at, gone_at, place, scripted_at}
+use Rattle.conversations.specs.Answered.{Answer, Place, answer, scripted_at}
 use Rattle.conversations.specs.Breaking.{HaltsThere, IsCut, IsCutOr, IsUncut, MakesNoDifference, break_behind}
-use Rattle.conversations.specs.Breaks.{break_at, cut, cut_behind, cut_from, cut_line, cut_of, cut_or, has_breaks, unbroken}
-use Rattle.conversations.specs.Desks.{Declaration, declaration, declared_after, without}
+use Rattle.conversations.specs.Breaks.{break_at, cut, cut_behind, cut_from, cut_line, cut_of, cut_or, has_breaks}
+use Rattle.conversations.specs.Desks.{Declaration, declaration, declared_after}
 
 -- ---- without breaks
 

@@ -1,5 +1,5 @@
 -- Breaks halt where they say: what a law states of them.
-use Rattle.std.specs.Prelude.{◌≡◌, ℕ, ◌+◌, ◌-◌, ◌<◌, ◌≤◌, false, Option, Some, None, option_map, Result, Ok, Err, List, [], drop, length, slice_get, take}
+use Rattle.std.specs.Prelude.{◌≡◌, ℕ, ◌+◌, ◌-◌, ◌<◌, ◌≤◌, false, Option, Some, None, Result, Ok, Err, List, [], drop, length, slice_get, take}
 use Rattle.std.specs.Option.{option_and_then}
 use Rattle.litmus_text.specs.declared.text_lines.LinedObject.{LinedObject}
 use Rattle.machine.specs.State.{State}
@@ -11,7 +11,7 @@ use Rattle.debugger.specs.Halts.{halt_of}
 use Rattle.debugger.specs.Pasts.{AreAccepted}
 use Rattle.debugger.specs.Sessions.{after}
 use Rattle.debugger.specs.declared.halt.Halt.TheVariants.{End}
-use Rattle.debug_scripts.specs.Ahead.{all_ahead, steps_ahead}
+use Rattle.debug_scripts.specs.Ahead.{steps_ahead}
 use Rattle.debug_scripts.specs.declared.orders.Command.{Command}
 use Rattle.conversations.specs.declared.breaks.Cut.{Cut}
 use Rattle.conversations.specs.Answered.{Place, answer, followed_at, gone_at, place, scripted_at}

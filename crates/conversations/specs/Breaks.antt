@@ -1,5 +1,5 @@
 -- Breaks: where steps halt that are made, beside stops and refusals. A break is about one accepted step: the state before it, what it showed, and the state after it.
-use Rattle.std.specs.Prelude.{ℕ, zero, ◌+◌, ◌==◌, Bool, true, false, not, ◌&&◌, ◌||◌, if◌then◌else◌, is_some, Option, Some, None, option_map, Result, Ok, Err, List, [], ◌∷◌, ◌++◌, codes, decimal, length, take}
+use Rattle.std.specs.Prelude.{ℕ, ◌+◌, ◌==◌, Bool, true, false, not, ◌&&◌, ◌||◌, is_some, Option, Some, None, option_map, Result, Ok, Err, List, [], ◌∷◌, ◌++◌, codes, decimal, take}
 use Rattle.std.specs.List.{find, list_any}
 use Rattle.std.specs.Option.{option_map_or}
 use Rattle.lines_layout.specs.Names.{Text}
