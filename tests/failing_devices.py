@@ -20,7 +20,7 @@ from collections.abc import Iterable, Iterator
 
 from tests.harness import Case, Checks, Px86, commands_of, library, unlike
 
-AT_LEAST = {"": 4575}
+AT_LEAST = {"": 4622}
 NEEDS_PROGRAM = True
 # How many bytes the library gives at most.
 LARGEST_READ = 7
@@ -63,6 +63,7 @@ SWEEPS: list[tuple[str, str, str | None, str | bytes, int]] = [
     ("images --set 1", FLUSHED, STEPS, "set 0\n", 0),
     ("law", FLUSHED, STEPS, "none\n", 0),
     ("debug", FLUSHED, STEPS + "go\nshow\nvalues x\n", DEBUG, 0),
+    ("debug", FLUSHED, STEPS + "go\nback 1\n", "end\nback 1\n", 0),
     ("live --threads 1", FLUSHED, STEP, LIVE, 0),
     ("tally --length 2 --runs 5", WRITE, STEP, "outcome 5 x=1/1\n", 0),
     ("hunt --workers 1 --length 2 --runs 5 --cond 'persisted x = 1'", WRITE, STEP, "none\n", 0),
