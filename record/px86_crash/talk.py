@@ -15,6 +15,8 @@ from .faults import Failed
 # A pipe takes what is said at once.
 AT_ONCE = 1 << 15
 PROMPT = b"px86> "
+# How long is waited for what a px86 that has ended said of it, in seconds.
+LAST_WORDS = 5.0
 
 
 class Values(NamedTuple):
@@ -88,9 +90,14 @@ class Talk:
 
     def fault(self) -> Failed:
         """That it breaks off, and what px86 says of it."""
-        assert self.process.stderr is not None
+        assert self.process.stdin is not None and self.process.stderr is not None
         self.process.kill()
-        said = self.process.stderr.read().decode(errors="replace").strip().removeprefix("px86: ")
+        # What it has started may live on, and hold the pipe: it sees here that nothing more is said.
+        with contextlib.suppress(OSError):
+            self.process.stdin.close()
+        ready, _, _ = select.select([self.process.stderr], [], [], LAST_WORDS)
+        heard = os.read(self.process.stderr.fileno(), AT_ONCE) if ready else b""
+        said = heard.decode(errors="replace").strip().removeprefix("px86: ")
         return Failed(f"{self.name} breaks off{': ' if said else ''}{said}")
 
     def want(self, line: str) -> None:
