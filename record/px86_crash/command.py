@@ -344,8 +344,7 @@ class Run:
         needs_all = options.check is not None and options.reads == "all"
         asked = frozenset(asked_words(options.all, self.names, recording.size))
         window = min(options.window, MOST_INSTRUCTIONS)
-        made = Case(recording, places, self.folder, self.px86, self.names, window, asked, not needs_all, options.jobs, options.nt == "map")
-        return replace(made, condition=options.all if options.part.is_first else None)
+        return Case(recording, places, self.folder, self.px86, self.names, window, asked, not needs_all, options.jobs, options.nt == "map")
 
 
 def choose_reads(options: argparse.Namespace, report: Report) -> None:

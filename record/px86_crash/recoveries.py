@@ -16,7 +16,7 @@ import shlex
 import threading
 from collections import Counter
 from collections.abc import Callable, Iterator, Sequence
-from dataclasses import dataclass, field, replace
+from dataclasses import dataclass, field
 
 from . import checker, folders, stepper
 from .answer import Case, refuse_what_is_not_recorded
@@ -24,6 +24,7 @@ from .branches import Branches, Point, Points, followed
 from .checker import Verdict
 from .explore import MOST_LEAVES, Explorer, Leaf, Worker, refuse_other_reads
 from .faults import Failed, Refused, TooLarge
+from .images import Image
 from .memory_files import MemoryFile
 from .places import Places
 from .readers import Reader, Seen
@@ -232,8 +233,8 @@ class Recoveries:
     step: bool
     case: Case
     folder: str
-    # What is to hold in each image of a recovery, if something is.
-    condition: str | None
+    # Makes a condition false, of the images of a recording; none of them if no condition is asked.
+    first_false: Callable[[Case], Image | None] | None
     branches: Branches
     found: dict[Key, Crashed] = field(default_factory=dict)
     too_large: dict[Key, Refused] = field(default_factory=dict)
@@ -260,8 +261,7 @@ class Recoveries:
 
     def case_of(self, recording: Recording, folder: str, places: Places) -> Case:
         case = self.case
-        made = Case(recording, places, folder, case.px86, case.names, MOST_INSTRUCTIONS, case.asked, True, case.jobs)
-        return replace(made, condition=self.condition)
+        return Case(recording, places, folder, case.px86, case.names, MOST_INSTRUCTIONS, case.asked, True, case.jobs)
 
 
 class RecoveryWorker(Worker):
@@ -326,11 +326,11 @@ class RecoveryWorker(Worker):
     # --- a crash of it
 
     def verdict_of(self, recording: UnknownRecording, cuts: Cuts, key: Key, crashed: Crashed) -> Verdict:
-        if self.all.condition is not None:
+        if self.all.first_false is not None:
             folder = self.all.path(f"condition{self.name}")
             folders.make(folder)
             plain = Recording(recording.path, self.all.case.map_nontemporal, recording.ignored, recording.grain)
-            if self.all.case_of(plain, folder, self.all.case.places).answer.false is not None:
+            if self.all.first_false(self.all.case_of(plain, folder, self.all.case.places)) is not None:
                 crashed.makes_false = True
                 return Verdict("bad", "")
         states = [CrashState(state, cuts, recording) for state in states_of(recording)]
