@@ -52,7 +52,10 @@ pub use script_fault::ScriptFault;
 pub use seen_text::{push_act, push_seen};
 pub use sentences::refusal_sentence;
 pub use service::{Report, Sources, read_sources, write_report};
-pub use state_text::{push_entry, push_run, push_site, push_state, word_name};
+pub use state_text::{
+    push_below_cpu, push_counts, push_cpu_line, push_entry, push_memory, push_run, push_site,
+    push_state, word_name,
+};
 pub use status::Status;
 pub use transfer::{MAX_INPUT, ReadFault};
 pub use tried_text::push_tried;

@@ -1,7 +1,7 @@
 //! The text of a machine's state, and of how a run ended.
 ghost use Rattle.std.specs.Prelude.{◌≡◌, ◌<◌, ◌≤◌, ◌++◌, ◌*◌, IfSome, IsTrue, OnOk, codes, length, map, slice_get, slice_index, string_bytes};
 ghost use Rattle.lines_layout.specs.Lines.{has_word, line_words, max_lines};
-ghost use Rattle.commands.specs.StateTexts.{cpu_line, cpu_text, cpu_texts, entry_text, flag_text, name_text, pending_text, placed_lines, program_text, progress_text, register_line, register_lines, run_text, site_text, state_text, trap_line, word_line, word_lines, word_texts, write_text};
+ghost use Rattle.commands.specs.StateTexts.{below_text, counts_text, cpu_line, cpu_text, cpu_texts, entry_text, flag_text, memory_text, name_text, pending_text, placed_lines, program_text, progress_text, register_line, register_lines, run_text, site_text, state_text, trap_line, word_line, word_lines, word_texts, write_text};
 
 use crate::number_text::push_labelled;
 use isa::{REGISTERS, Reg};
@@ -18,13 +18,36 @@ pub fn push_state(text: &mut String, view: &View<'_>, layout: &Layout) -> Result
     requires { view.now.shape ≡ map length layout.now }
     ensures { OnOk result (string_bytes text.new ≡ string_bytes text.old ++ state_text layout.now view.now) }
 {
+    push_counts(text, view)?;
+    push_cpus(text, view, layout)?;
+    push_memory(text, view, layout)
+}
+
+/// Appends how many turns and crashes there were.
+///
+/// # Errors
+///
+/// Out of memory. A part of the text may then be at the end.
+pub fn push_counts(text: &mut String, view: &View<'_>) -> Result<(), AllocError>
+    ensures { OnOk result (string_bytes text.new ≡ string_bytes text.old ++ counts_text view.now) }
+{
     writeln!(text, "turns {}", view.turns())?;
     writeln!(text, "crashes {}", view.crashes())?;
-    push_cpus(text, view, layout)?;
+    Ok(())
+}
+
+/// Appends the memory: its words, and the pending list. The machine was loaded from the layout, which names its words.
+///
+/// # Errors
+///
+/// Out of memory. A part of the text may then be at the end.
+pub fn push_memory(text: &mut String, view: &View<'_>, layout: &Layout) -> Result<(), AllocError>
+    requires { view.now.shape ≡ map length layout.now }
+    ensures { OnOk result (string_bytes text.new ≡ string_bytes text.old ++ memory_text layout.now view.now.memory) }
+{
     push_words(text, view, layout)?;
     let pending = view.pending_list(*text.allocator())?;
-    push_pending(text, layout, &pending)?;
-    Ok(())
+    push_pending(text, layout, &pending)
 }
 
 /// Appends the text of how a run ended: the state that it left, and where a step was refused, how
@@ -68,13 +91,35 @@ fn push_cpu(text: &mut String, view: &View<'_>, layout: &Layout, p: usize) -> Re
         string_bytes text.new ≡ string_bytes text.old ++ cpu_text layout.now p c)) }
 {
     push_cpu_line(text, view, p)?;
+    push_below_cpu(text, view, layout, p)
+}
+
+/// Appends what stands below the line of processor p: its trap, its registers and its store buffer.
+///
+/// # Errors
+///
+/// Out of memory. A part of the text may then be at the end.
+pub fn push_below_cpu(
+    text: &mut String,
+    view: &View<'_>,
+    layout: &Layout,
+    p: usize,
+) -> Result<(), AllocError>
+    requires { p < length view.now.processors }
+    ensures { OnOk result (IfSome (slice_get view.now.processors p) (λ c.
+        string_bytes text.new ≡ string_bytes text.old ++ below_text layout.now c)) }
+{
     push_trap(text, view, p)?;
     push_registers(text, view, p)?;
     push_buffer(text, layout, view.buffer(p).unwrap())
 }
 
-/// The line of processor p.
-fn push_cpu_line(text: &mut String, view: &View<'_>, p: usize) -> Result<(), AllocError>
+/// Appends the line of processor p.
+///
+/// # Errors
+///
+/// Out of memory. A part of the text may then be at the end.
+pub fn push_cpu_line(text: &mut String, view: &View<'_>, p: usize) -> Result<(), AllocError>
     requires { p < length view.now.processors }
     ensures { OnOk result (IfSome (slice_get view.now.processors p) (λ c.
         string_bytes text.new ≡ string_bytes text.old ++ cpu_line p c)) }

@@ -674,22 +674,11 @@ fn follow_at(
 }
 
 /// Appends what the last step changed.
-fn change(
-    lined: &LinedObject,
-    session: &Session,
-    desk: &Desk,
-    text: &mut String,
-) -> Result<(), AllocError>
+fn change(lined: &LinedObject, session: &Session, text: &mut String) -> Result<(), AllocError>
     requires shape { HasShape lined.now.object.layout (session_value meaning_of session.now) }
     ensures { OnOk result (string_bytes text.new ≡ string_bytes text.old ++ changed_text lined.now session.now.past.history session.now.past.state) }
 {
-    push_changed(
-        desk.alloc,
-        text,
-        lined,
-        session.past.steps(),
-        &session.look(),
-    )
+    push_changed(text, lined, session.past.steps(), &session.look())
 }
 
 /// Does what is ordered, and appends the answer to a text that is empty.
@@ -732,7 +721,7 @@ fn obey(
         Order::Info => Ok(push_info(text, &desk.declared)?),
         Order::Delete(id) => Ok(delete(session, desk, text, *id)?),
         Order::Break(id, moment) => Ok(set_break(lined, desk, text, line, *id, *moment)?),
-        Order::Changed => Ok(change(lined, session, desk, text)?),
+        Order::Changed => Ok(change(lined, session, text)?),
         Order::Ahead => Ok(push_steps(desk.alloc, text, desk.ahead.all())?),
         Order::List => Ok(push_list(text, lined, &session.look())?),
         Order::Next => Ok(push_next_steps(desk.alloc, text, layout, session.past.machine())?),

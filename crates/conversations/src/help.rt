@@ -148,7 +148,7 @@ impl Word {
                 "reverse             goes back, as undo does, to the last state behind in which a stop's condition holds, or to the beginning; it knows no breaks",
             Word::Show => "show                prints the machine's state",
             Word::Changed =>
-                "changed             prints the lines of show that were not there before the last step",
+                "changed             prints the lines of show that were not there before the last step, those of a processor below its line cpu",
             Word::List =>
                 "list                prints the program that each processor runs, with > before the place where it is",
             Word::Print =>

@@ -42,8 +42,8 @@ fn runs_as(view: &View<'_>, recovered: bool, p: usize) -> bool
     }
 }
 
-/// Whether all processors have ended, after a crash or before the first one.
-fn have_ended(view: &View<'_>, recovered: bool) -> bool
+/// Whether all processors have nothing left to do, and run their recovery programs (`recovered`), or their main programs.
+pub fn have_ended(view: &View<'_>, recovered: bool) -> bool
     ensures { result ≡ have_ended recovered view.now }
 {
     for p in 0..view.cpus() {

@@ -47,6 +47,7 @@ mod verdict;
 mod visit;
 
 pub use asking::check;
+pub use ends::have_ended;
 pub use event::Event;
 pub use fault::ExploreFault;
 pub use memories::{CrashMemory, find_memories};

@@ -132,9 +132,10 @@ impl Hash for Numbers {
     }
 }
 
-/// Of so many processors instructions have marks, as far as this place.
+/// Of so many processors instructions have marks.
 const MARKED_PROCESSORS: usize = 16;
 
+/// So many instructions of each of their programs have marks.
 const MARKED_PLACES: usize = 4096;
 
 /// A set of lists of numbers, in the order in which they came.

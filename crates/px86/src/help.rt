@@ -196,7 +196,7 @@ With --interactive each line is answered before the next is read. Stops and watc
   undo [N]            goes back before the last step, or before the last N, and forgets what was noted of them
   goto N              goes back to the state after the first N steps, as undo does; it never goes forward
   reverse             goes back, as undo does, to the last state behind in which a stop's condition holds, or to the beginning; it knows no breaks
-  changed             prints the lines of show that were not there before the last step
+  changed             prints the lines of show that were not there before the last step, those of a processor below its line cpu
   list                prints the program that each processor runs, with > before the place where it is
   print NAME          prints the values of a word; print P:REG the value of a register
   images COND         lists of what a crash may leave what makes COND false
