@@ -30,8 +30,11 @@ def find_px86() -> str:
         return os.path.abspath(path)
     if named:
         raise Gone(f"the variable PX86 names {named}, which is no program")
-    script = os.path.relpath(os.path.join(TOP, "px86"))
-    raise Gone(f"px86 is not built: run {script} --version, which proves and builds it, once")
+    script = os.path.join(os.path.relpath(TOP), "px86")
+    raise Gone(
+        f"px86 is not built: run {script} --version, which proves and builds it, once."
+        f" Until then run {script} --unproved --version, and export PX86={path}.unproved"
+    )
 
 
 class Answer(NamedTuple):
