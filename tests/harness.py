@@ -15,10 +15,12 @@ import functools
 import multiprocessing
 import os
 import re
+import select
 import shutil
 import signal
 import subprocess
 import tempfile
+import time
 import unittest
 from collections.abc import Callable, Iterable, Iterator, Mapping, Sequence
 from typing import Any
@@ -124,6 +126,56 @@ def with_parallel(px86: Px86) -> tuple[dict[str, str], bool]:
     if stands_in:
         variables["PATH"] = f"{TOP}/tests/without-parallel:{variables['PATH']}"
     return variables, stands_in
+
+
+class Terminal:
+    """A pseudo-terminal, set as these words of `stty` say, with a command behind it."""
+
+    def __init__(self, words: Sequence[str], settings: str, **how: Any) -> None:
+        self.file, other = os.openpty()
+        whole = ["setsid", "--ctty", "sh", "-c", f'stty {settings}; exec "$@"', "sh", *words]
+        self.process = subprocess.Popen(whole, **dict.fromkeys(("stdin", "stdout", "stderr"), other), **how)
+        os.close(other)
+
+    def __enter__(self) -> Terminal:
+        return self
+
+    def __exit__(self, *_: object) -> None:
+        """Ends the command, if it has not ended."""
+        self.hang_up()
+        self.process.kill()
+        self.process.wait()
+
+    def types(self, keys: str) -> None:
+        os.write(self.file, keys.encode())
+
+    def reads(self, came: Callable[[str], bool], most: float = 60) -> str:
+        """All that is written until this is true of it, or up to the end. It may take so many seconds."""
+        read, until = b"", time.monotonic() + most
+        while not came(read.decode(errors="replace")):
+            if not select.select([self.file], [], [], max(0, until - time.monotonic()))[0]:
+                raise AssertionError(f"nothing more came in {most} seconds behind {read[-300:]!r}")
+            try:
+                piece = os.read(self.file, 65536)
+            except OSError:
+                piece = b""
+            if not piece:
+                break
+            read += piece
+        return read.decode(errors="replace")
+
+    def status(self, most: float = 60) -> int:
+        """How the command ends, in so many seconds: its status, or the signal that ended it as a negative number."""
+        try:
+            return self.process.wait(most)
+        except subprocess.TimeoutExpired:
+            return TIMED_OUT
+
+    def hang_up(self) -> None:
+        """Closes the window."""
+        if self.file >= 0:
+            os.close(self.file)
+        self.file = -1
 
 
 # --- the second model, asked in processes of its own
