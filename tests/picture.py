@@ -14,13 +14,14 @@ import os
 import re
 import shutil
 import struct
+import sys
 import zlib
 from collections.abc import Iterator
 from xml.etree import ElementTree
 
 from tests.harness import TOP, Case, Checks, Done, NotRun, Px86, differs, model, read, run, unlike, wrong_end, wrong_run
 
-AT_LEAST = {"": 314}
+AT_LEAST = {"": 318}
 NEEDS_PROGRAM = True
 SVG = "{http://www.w3.org/2000/svg}"
 
@@ -593,8 +594,8 @@ FAULTS = [
     (["--states", "--limit", "x", "PASSED"], "", 2, "picture: usage: argument --limit: .."),
     (["nowhere.litmus"], "", 3, f"picture: nowhere.litmus: {NO_FILE}"),
     (["--program", "nowhere", "PASSED"], "", 3, f"picture: nowhere: {NO_FILE}"),
-    (["--program", "false", "PASSED"], "", 3, "picture: false trace ended with status 1"),
-    (["--program", "true", "PASSED"], "", 3, "picture: px86 does not show a state behind each step"),
+    (["--program", "false", "PASSED"], "", 3, "picture: false debug ended with status 1"),
+    (["--program", "true", "PASSED"], "", 3, "picture: true debug ended with status 0"),
     (["BAD"], "", 2, "px86: X1 BadWord line 4"),
     (["PASSED"], "exec 0\nfrob\n", 2, "px86: S1 BadLine 2"),
     (["PASSED"], "all fails 0 2\nsteps 1\nexec\n", 2, "px86: S1 BadLine 3"),
@@ -627,6 +628,27 @@ STREAMS = {
 def stream(px86: Px86, redirected: str) -> Checks:
     done = shell(f'tools/picture --program "$1" "$2" {redirected}', px86.path, px86.keep("passed.litmus", PASSED))
     yield "", wrong_end(done, 3, STREAMS[redirected] + "\n")
+
+
+# What is no px86, but answers each line, or reads none; and what is said of it.
+OTHERS = {
+    """sh -c 'sed -u "s/^back 0/px86> &/"'""": "debug answers `show`: show",
+    """sh -c 'sed -u "s/^show/turns 0/; s/^back 0/px86> &/"'""": "debug answers `next`: next",
+    "sh -c 'echo turns 0; kill -KILL $$'": "debug ended with status -9",
+    "sh -c 'exec sleep 1000'": "debug answers nothing in 0.2 seconds",
+}
+
+
+def another(px86: Px86, program: str, said: str) -> Checks:
+    """None of these is waited for without an end: the tool waits for 600 seconds, and here for less."""
+    tool = read("tools/picture")
+    if tool.count("\nSECONDS = 600\n") != 1:
+        yield "", "tools/picture does not wait for 600 seconds"
+        return
+    seconds = 0.2 if "sleep" in program else 60
+    shorter = px86.keep("shorter", tool.replace("\nSECONDS = 600\n", f"\nSECONDS = {seconds}\n"))
+    done = run([sys.executable, "-B", shorter, "--program", program, px86.keep("passed.litmus", PASSED)], "exec 0\n", 100)
+    yield "", wrong_run(done, 3, "", f"picture: {program} {said}\n")
 
 
 def shell(command: str, *words: str) -> Done:
@@ -703,6 +725,7 @@ def cases() -> Iterator[Case]:
         options = ["--before-crash"] * before
         yield Case(" ".join(["the graph of", os.path.basename(path), *options]), counted_graph, path, options, limit)
     yield from (Case(f"fault {words} {given!r}", fault, words, given, status, said) for words, given, status, said in FAULTS)
+    yield from (Case(f"another program: {program}", another, program, said) for program, said in OTHERS.items())
     yield from (Case(f"a stream: {redirected}", stream, redirected) for redirected in STREAMS)
     yield Case("an object", of_object)
     yield Case("a program from a pipe", of_pipe)

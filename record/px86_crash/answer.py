@@ -4,17 +4,18 @@ from __future__ import annotations
 
 import os
 from collections.abc import Iterable
-from dataclasses import dataclass
+from dataclasses import dataclass, field
 from functools import cached_property
 
 from . import emulator
-from .emulator import Px86
+from .emulator import Left, Px86, left_of
 from .faults import Failed, Refused, TooLarge, plural
-from .images import Images
+from .images import Image, Images
 from .one_thread import Planner
 from .places import Places
 from .recording import Recording
 from .report import Progress, Report
+from .talk import Talk
 from .text import Names, Text
 from .threads import text_of_threads
 
@@ -36,6 +37,8 @@ class Case:
     jobs: int = 1
     # Whether non-temporal stores are taken as others with a flush.
     map_nontemporal: bool = False
+    # What is to hold in each image, if something is.
+    condition: str | None = None
     # Why the images are not listed, if so.
     narrowed: str = ""
 
@@ -60,6 +63,17 @@ class Case:
         return path
 
 
+@dataclass
+class Played:
+    """What px86 says of a text: the images of each look, the first that makes the condition false, which values its words have where it
+    was told to hold, and what each word of the text has at the end."""
+
+    images: list[list[tuple[int, ...]]] = field(default_factory=list)
+    false: tuple[Image, Left] | None = None
+    true: set[tuple[int, ...]] = field(default_factory=set)
+    final: list[int] = field(default_factory=list)
+
+
 class Answer:
     """What px86 says of a recording. Its texts and scripts are files of a folder."""
 
@@ -67,8 +81,8 @@ class Answer:
         self.case, self.recording = case, recording
         self.texts = self.plan()
         self.images = Images(recording)
-        # What the words of a condition have in the images of each look of each text.
-        self.asked_values: list[list[frozenset[tuple[int, ...]]]] = []
+        # The first image in order that makes the condition false, and what is known of it.
+        self.false: tuple[Image, Left] | None = None
         finals = []
         for number, text in enumerate(self.texts, 1):
             text.number = number
@@ -78,19 +92,43 @@ class Answer:
 
         progress = Progress("texts are listed", len(self.texts))
         with ThreadPoolExecutor(case.jobs) as executor:
-            for number, (text, (images, final)) in enumerate(zip(self.texts, executor.map(self.play, self.texts))):
+            for number, (text, played) in enumerate(zip(self.texts, executor.map(self.play, self.texts))):
                 progress.at(number)
-                finals.append(final)
-                self.images.add(text, images)
-                self.asked_values.append([values_of(text, case.asked, some) for some in images])
+                finals.append(played.final)
+                self.images.add(text, played.images)
+                self.false = self.false or played.false
         progress.done()
         word = emulator.replay(recording, self.texts, finals)
         if word is not None:
             raise Failed(f"px86 run of all comes to another memory than the program: the word at {word:#x} differs")
 
-    def play(self, text: Text) -> tuple[list[list[tuple[int, ...]]], list[int]]:
-        script = self.case.write(f"text{text.number}.script", text.script())
-        return self.case.px86.play(text.file, script, text)
+    def play(self, text: Text) -> Played:
+        """Has px86 play the script of a text, in a conversation."""
+        self.case.write(f"text{text.number}.script", text.script())
+        played = Played()
+        with self.case.px86.talk(text.file) as talk:
+            for number, look in enumerate(text.looks):
+                talk.make(look.lead + look.steps)
+                played.images.append(talk.images(look.candidates))
+                played.false = played.false or self.false_image(talk, text, number, played)
+                talk.back(len(look.steps))
+            talk.make(text.ending)
+            played.final = [word.coherent for word in talk.words([text.name(word) for word in text.words])]
+        return played
+
+    def false_image(self, talk: Talk, text: Text, look: int, played: Played) -> tuple[Image, Left] | None:
+        """The first image of a look that makes the condition false. It asks of persisted values alone: so px86 is not asked where its
+        words have no other values than where it was told to hold."""
+        if self.case.condition is None:
+            return None
+        values = values_of(text, self.case.asked, played.images[look])
+        if self.case.asked and values <= played.true:
+            return None
+        image = talk.false_image(self.case.condition)
+        if image is None:
+            played.true |= values
+            return None
+        return Image(text, look, image), left_of(talk, text, image)
 
     def plan(self) -> list[Text]:
         case = self.case
@@ -101,6 +139,10 @@ class Answer:
     @property
     def looks(self) -> int:
         return sum(len(text.looks) for text in self.texts)
+
+    def left_of(self, image: Image) -> Left | None:
+        """What is known of an image already."""
+        return self.false[1] if self.false is not None and image is self.false[0] else None
 
     def say_asked(self, report: Report) -> None:
         if self.case.narrowed:

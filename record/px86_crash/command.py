@@ -343,8 +343,11 @@ class Run:
         options = self.options
         needs_all = options.check is not None and options.reads == "all"
         asked = frozenset(asked_words(options.all, self.names, recording.size))
-        window = min(options.window, MOST_INSTRUCTIONS)
-        return Case(recording, places, self.folder, self.px86, self.names, window, asked, not needs_all, options.jobs, options.nt == "map")
+        window, nontemporal = min(options.window, MOST_INSTRUCTIONS), options.nt == "map"
+        condition = options.all if options.part.is_first else None
+        return Case(
+            recording, places, self.folder, self.px86, self.names, window, asked, not needs_all, options.jobs, nontemporal, condition
+        )
 
 
 def choose_reads(options: argparse.Namespace, report: Report) -> None:

@@ -14,10 +14,6 @@ If there is no conversation, or if it breaks off, there are no answers: then px8
 
 from __future__ import annotations
 
-import contextlib
-import os
-import select
-import subprocess
 import threading
 from array import array
 from collections import Counter
@@ -27,6 +23,7 @@ from typing import NamedTuple
 
 from .faults import Failed
 from .recording import Operation
+from .talk import Talk
 
 # A line has so many words, a text so many lines of them beside one of its own.
 MOST_WORDS, MOST_LINES = 8, 63
@@ -38,11 +35,10 @@ ADDRESS_STEPS = {64: 0, 8: 1, 1: 2}
 NUMBER_STEPS = {16: 4, 1: 5}
 ADDRESS_ANEW, NUMBER_ANEW = 3, 6
 FLUSHING, STORING = (7, 8), (9, 10, 11, 12, 13, 14, 15)
-# A conversation hears 2^26 bytes, and then another one begins. A pipe takes what is said at once.
-MOST_SAID, AT_ONCE = 1 << 25, 1 << 15
-# So many seconds are waited for more of an answer.
-SECONDS = 60
-PROMPT = "px86> "
+# A conversation hears 2^26 bytes, and then another one begins.
+MOST_SAID = 1 << 25
+# So many seconds are waited for more of an answer, and then a text is asked.
+SECONDS = 60.0
 
 
 class Entry(NamedTuple):
@@ -221,16 +217,14 @@ def steps_of(entries: Sequence[Entry]) -> tuple[list[str], list[str]]:
 
 
 class Conversation:
-    """A px86 to which lines are said, and which answers each. It begins with the first question."""
+    """What px86 answers of lists. It is started with the first question."""
 
     def __init__(self, path: str, environment: dict[str, str]) -> None:
         self.path, self.environment = path, environment
         self.lock = threading.Lock()
         self.known: dict[tuple[bytes, str], list[int]] = {}
-        self.process: subprocess.Popen[bytes] | None = None
+        self.talk: Talk | None = None
         self.is_over = False
-        self.heard = b""
-        self.said = 0
         # The steps that it has made, in two parts.
         self.made: tuple[list[str], list[str]] = ([], [])
 
@@ -241,64 +235,44 @@ class Conversation:
             new = list(dict.fromkeys(question for question in questions if (key, question) not in self.known))
             if new and not self.is_over:
                 try:
-                    self.ask(key, entries, new, write)
-                except (OSError, ValueError, Failed):
+                    talk = self.with_pending(entries, write)
+                    self.known.update(zip([(key, question) for question in new], talk.values(new)))
+                except Failed:
                     self.end()
             if any((key, question) not in self.known for question in questions):
                 return None
             return [self.known[key, question] for question in questions]
 
-    def least_set(self, entries: Sequence[Entry], image: Mapping[int, int], write: Callable[[str, str], str]) -> list[int] | None:
+    def least_set(self, entries: Sequence[Entry], image: Mapping[int, int], write: Callable[[str, str], str]) -> set[int] | None:
         """The places in a list of what has to persist for an image, by the numbers of its words. None if it is no image; it fails if
         there is no conversation."""
         with self.lock:
             if self.is_over:
                 raise Failed("there is no conversation")
             try:
-                self.make_pending(entries, write)
-                self.say([set_of(entries, image)])
-                return self.hear_set()
-            except (OSError, ValueError) as error:
-                self.end()
-                raise Failed("the conversation breaks off") from error
+                return self.with_pending(entries, write).least_set(values_of(entries, image))
             except Failed:
                 self.end()
                 raise
 
-    def make_pending(self, entries: Sequence[Entry], write: Callable[[str, str], str]) -> None:
-        if self.said > MOST_SAID:
+    def with_pending(self, entries: Sequence[Entry], write: Callable[[str, str], str]) -> Talk:
+        """The talk, in which this list is pending."""
+        if self.talk is not None and self.talk.said > MOST_SAID:
             self.close()
-        if self.process is None:
-            self.process = self.begin(write("lines.litmus", text_of_lines()))
-        self.go_to(*steps_of(entries))
+        if self.talk is None:
+            self.talk = Talk(self.path, write("lines.litmus", text_of_lines()), self.environment, SECONDS)
+        self.go_to(self.talk, *steps_of(entries))
+        return self.talk
 
-    def ask(self, key: bytes, entries: Sequence[Entry], questions: Sequence[str], write: Callable[[str, str], str]) -> None:
-        self.make_pending(entries, write)
-        for some in at_once(questions):
-            self.say(some)
-            for question in some:
-                self.known[key, question] = self.hear_values()
-
-    def go_to(self, filling: list[str], leaving: list[str]) -> None:
+    def go_to(self, talk: Talk, filling: list[str], leaving: list[str]) -> None:
         """Has just these steps made: those that it has made at first may be the same."""
         filled, left = self.made
         same = len(filling) if filling is filled else same_at_first(filled, filling)
         if same == len(filling) == len(filled):
             same += same_at_first(left, leaving)
-        back = len(filled) + len(left) - same
-        if back:
-            self.say([f"back {back}"])
-            self.want(f"back {back}")
-        for some in at_once([*filling, *leaving][same:]):
-            self.say([*some, "go"])
-            self.want("end")
+        talk.back(len(filled) + len(left) - same)
+        talk.make([*filling, *leaving][same:])
         self.made = filling, leaving
-
-    def begin(self, file: str) -> subprocess.Popen[bytes]:
-        words = [self.path, "debug", "--interactive", file]
-        return subprocess.Popen(
-            words, stdin=subprocess.PIPE, stdout=subprocess.PIPE, stderr=subprocess.DEVNULL, env=self.environment
-        )
 
     def end(self) -> None:
         """There are no answers from now on."""
@@ -307,81 +281,19 @@ class Conversation:
 
     def close(self) -> None:
         """The next question begins anew."""
-        if self.process is not None:
-            self.process.kill()
-            self.process.wait()
-            for pipe in (self.process.stdin, self.process.stdout):
-                with contextlib.suppress(OSError):
-                    if pipe is not None:
-                        pipe.close()
-        self.process, self.heard, self.said, self.made = None, b"", 0, ([], [])
-
-    # --- lines
-
-    def say(self, lines: Sequence[str]) -> None:
-        assert self.process is not None and self.process.stdin is not None
-        said = "".join(line + "\n" for line in lines).encode()
-        self.said += len(said)
-        self.process.stdin.write(said)
-        self.process.stdin.flush()
-
-    def hear(self) -> str:
-        """The next line of an answer, without the prompts before it."""
-        assert self.process is not None and self.process.stdout is not None
-        while b"\n" not in self.heard:
-            ready, _, _ = select.select([self.process.stdout], [], [], SECONDS)
-            more = os.read(self.process.stdout.fileno(), 65536) if ready else b""
-            if not more:
-                raise Failed("the conversation breaks off")
-            self.heard += more
-        line, _, self.heard = self.heard.partition(b"\n")
-        return line.decode().rpartition(PROMPT)[2]
-
-    def want(self, line: str) -> None:
-        heard = self.hear()
-        if heard != line:
-            raise Failed(f"px86 answers {heard}, and not {line}")
-
-    def hear_values(self) -> list[int]:
-        """The numbers that a word may have, and behind them how many they are."""
-        values: list[int] = []
-        while True:
-            kind, _, number = self.hear().partition(" ")
-            if kind == "values" and int(number) == len(values):
-                return values
-            if kind != "value":
-                raise Failed(f"px86 answers {kind} {number}, and not values")
-            values.append(int(number))
-
-    def hear_set(self) -> list[int] | None:
-        """The places in the list that leave an image, or none."""
-        heard = self.hear()
-        kind, *places = heard.split(" ")
-        if heard != "no set" and kind != "set":
-            raise Failed(f"px86 answers {heard}, and no set")
-        return None if heard == "no set" else [int(place) for place in places]
+        if self.talk is not None:
+            self.talk.close()
+        self.talk, self.made = None, ([], [])
 
 
-def set_of(entries: Sequence[Entry], image: Mapping[int, int]) -> str:
-    """The command that asks for the set of an image: each word of the text has a number, the last two those of `a` and `v`."""
+def values_of(entries: Sequence[Entry], image: Mapping[int, int]) -> list[int]:
+    """The values of an image: each word of the text has a number, the last two those of `a` and `v`."""
     filling = filling_of(*filled_by(entries))
     values = [image.get(word, 0) for word in range(MOST_WORDS * MOST_LINES)]
-    return " ".join(map(str, ["set", *values, FIRST_ADDRESS + 8 * filling.address, filling.number]))
+    return [*values, FIRST_ADDRESS + 8 * filling.address, filling.number]
 
 
 def same_at_first(some: Sequence[str], others: Sequence[str]) -> int:
     """How many of these are the same, up to the first that differs."""
     shorter = min(len(some), len(others))
     return next((place for place in range(shorter) if some[place] != others[place]), shorter)
-
-
-def at_once(lines: Sequence[str]) -> Iterator[Sequence[str]]:
-    """Lines in a row, as many as a pipe takes at once with room for what they are answered before the last."""
-    begin, size = 0, 0
-    for place, line in enumerate(lines):
-        size += len(line) + 1
-        if size > AT_ONCE and place > begin:
-            yield lines[begin:place]
-            begin, size = place, len(line) + 1
-    if begin < len(lines):
-        yield lines[begin:]

@@ -5,13 +5,14 @@ from __future__ import annotations
 import json
 import os
 import subprocess
-from collections.abc import Iterator, Sequence
-from typing import Any
+from collections.abc import Collection, Mapping, Sequence
+from typing import Any, NamedTuple
 
 from .conversation import Conversation
 from .faults import Failed
 from .recording import ACKNOWLEDGED, Recording
-from .text import Look, Text
+from .talk import Talk
+from .text import Text
 
 TOP = os.path.dirname(os.path.dirname(os.path.dirname(os.path.abspath(__file__))))
 # A check in the code of a program without a proof ends it by a signal where it fails, as its statuses are reports.
@@ -28,6 +29,14 @@ def find_px86() -> str:
         raise Failed(f"the variable PX86 names {named}, which is no program")
     script = os.path.relpath(os.path.join(TOP, "px86"))
     raise Failed(f"px86 is not built: run {script} --version, which proves and builds it, once")
+
+
+class Left(NamedTuple):
+    """What is known of an image: the places in the pending list of what has to persist for it, by px86, and what each word has persisted
+    with before."""
+
+    kept: Collection[int]
+    persisted: Mapping[int, int]
 
 
 class Px86:
@@ -67,30 +76,15 @@ class Px86:
                 raise Failed(f"px86 {command} --json writes what is no JSON: {error}") from error
         return status, told, fault_in(said)
 
-    def play(self, file: str, script: str, text: Text) -> tuple[list[list[tuple[int, ...]]], list[int]]:
-        """Plays the script of a text: the images of each look, and then the coherent value of each word at the end."""
-        status, written, said = self.ask("debug", file, "--steps", script)
-        if status:
-            raise Failed(f"px86 debug {file} --steps {script} ended with status {status}: {said}")
-        lines = iter(written.splitlines())
-        images = [self.images(lines, look, file) for look in text.looks]
-        if next(lines, "") != "end":
-            raise Failed(f"px86 refuses a step of {script}")
-        final = [int(line.split()[3]) for line in lines if line.startswith("word ")]
-        return images, final
+    def talk(self, file: str) -> Talk:
+        """A conversation about a file."""
+        return Talk(self.path, file, ENVIRONMENT)
 
-    def images(self, lines: Iterator[str], look: Look, file: str) -> list[tuple[int, ...]]:
-        """The images of one look, each as the values of the text's words."""
-        if next(lines, "") != "end" or next(lines, "") != f"candidates {look.candidates}":
-            raise Failed(f"px86 finds another memory in {file} than was meant, with other than {look.candidates} candidates")
-        images = []
-        for line in lines:
-            if line.split(" ")[0] != "image":
-                break
-            images.append(tuple(map(int, line.split()[1:])))
-        if look.steps:
-            next(lines, "")
-        return images
+    def left(self, text: Text, look: int, values: Sequence[int]) -> Left:
+        """What is said of an image of a look."""
+        with self.talk(text.file) as talk:
+            talk.make(text.steps_to(look))
+            return left_of(talk, text, values)
 
     def values(self, file: str, script: str, count: int) -> list[list[int]]:
         """What so many commands `values` answer, at the end of a script."""
@@ -111,24 +105,12 @@ class Px86:
             raise Failed(f"px86 debug {file} --steps {script} gives {len(answers)} answers, and not {count}")
         return answers
 
-    def persisted(self, file: str, steps: str) -> list[int]:
-        """What each word has persisted with, by number, behind these steps."""
-        status, told, said = self.report("run", file, "--steps", steps)
-        if status:
-            raise Failed(f"px86 run {file} --steps {steps} ended with status {status}: {said or told.get('refused')}")
-        return [word["persisted"] for word in told["state"]["words"]]
-
-    def is_image(self, file: str, steps: str, values: Sequence[int]) -> bool:
-        """Whether a crash behind these steps may leave these values."""
-        status, told, _ = self.report("images", file, "--steps", steps, "--set", " ".join(map(str, values)))
-        return status == 0 and told["set"] is not None
-
-    def least_set(self, file: str, steps: str, values: Sequence[int]) -> set[int]:
-        """The places in the pending list that have to persist for an image."""
+    def least_set(self, file: str, steps: str, values: Sequence[int]) -> set[int] | None:
+        """The places in the pending list of what has to persist for an image; none if a crash behind these steps may not leave it."""
         status, told, said = self.report("images", file, "--steps", steps, "--set", " ".join(map(str, values)))
-        if status:
-            raise Failed(f"px86 images {file} --steps {steps} --set ended with status {status}: {said or 'no set'}")
-        return set(told["set"])
+        if status not in (0, 1):
+            raise Failed(f"px86 images {file} --steps {steps} --set ended with status {status}: {said}")
+        return None if told["set"] is None else set(told["set"])
 
     def mend(self, file: str, condition: str, states: int, seconds: float) -> list[tuple[str, int]]:
         """The instructions with which the condition holds in each memory that a run of a text may leave, each with the line of the text
@@ -136,6 +118,15 @@ class Px86:
         words = ("--before-crash", "--states", str(states), "--all", condition, file)
         status, told, _ = self.report("mend", *words, seconds=seconds)
         return [(put["instruction"].split(" ")[0], put["site"]["line"]) for put in told["put"]] if status == 0 and told["put"] else []
+
+
+def left_of(talk: Talk, text: Text, values: Sequence[int]) -> Left:
+    """What is said of an image where the steps to its memory are made."""
+    kept = talk.least_set(values)
+    if kept is None:
+        raise Failed(f"px86 has not the memory of {text.file} that was refused")
+    words = talk.words([text.name(word) for word in text.words])
+    return Left(kept, {word: there.persisted for word, there in zip(text.words, words)})
 
 
 def fault_in(said: str) -> str:

@@ -9,6 +9,7 @@ from dataclasses import dataclass, replace
 
 from .answer import Case
 from .conversation import Numbered
+from .emulator import Left
 from .explore import Leaf
 from .faults import Failed, TooLarge, plural
 from .memories import Window, whole
@@ -73,9 +74,8 @@ class Narrow:
         text.file = self.case.write("bad.litmus", text.litmus(self.case.places))
         values = text.values_of(lambda word: leaf.state.value(word, memory))
         steps = self.case.write("bad.steps", "".join(step + "\n" for step in text.steps_to(0)))
-        if text.contents is not None:
-            return Shown(text, 0, values, steps)
-        persisted = {word: leaf.state.history.value(word, leaf.state.number) for word in text.words}
+        counted = text.contents or {}
+        persisted = {word: 0 if word in counted else leaf.state.history.value(word, leaf.state.number) for word in text.words}
         shown = self.shown_by_numbers(text, 0, values, steps, persisted)
         if shown is None:
             raise no_memory_of(text)
@@ -123,8 +123,9 @@ class Narrow:
         if image is not None and numbered.can_be_asked():
             with contextlib.suppress(Failed):
                 kept = px86.conversation.least_set(numbered.entries, image, self.case.write)
-                return None if kept is None else Shown(text, look, values, steps, persisted, kept)
-        return Shown(text, look, values, steps) if px86.is_image(text.file, steps, values) else None
+                return None if kept is None else Shown(text, look, values, steps, Left(kept, persisted))
+        kept = px86.least_set(text.file, steps, values)
+        return None if kept is None else Shown(text, look, values, steps, Left(kept, persisted))
 
 
 def no_memory_of(text: Text) -> Failed:

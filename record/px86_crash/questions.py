@@ -45,6 +45,7 @@ from .report import (
     stored_by,
 )
 from .states import State, states_of, states_of_threads
+from .talk import NoCondition
 from .text import MOST_INSTRUCTIONS, Names, Text
 from .threads import TooManyWays, ordered_text
 
@@ -154,8 +155,8 @@ class Questions:
     # --- a condition
 
     def ask_condition(self) -> int:
+        image = self.first_false()
         self.case.answer.say_asked(self.report)
-        image = self.first_false(shows_progress=True)
         if image is not None:
             self.report.found(rank=[])
             self.report.say("NO: a crash may leave a memory that makes the condition false")
@@ -166,30 +167,19 @@ class Questions:
         self.report.say(f"px86 images --all: the condition holds in each memory that {states} may leave")
         return self.ask_delays() if len(self.case.recording.threads) > 1 else 0
 
-    def first_false(self, shows_progress: bool = False) -> Image | None:
-        """The first image that makes the condition false, or none. It asks of persisted values alone: so px86 is not asked of a look
-        where its words have no other values than where it was told to hold."""
-        case = self.case
-        looks = [(text, look) for text in case.answer.texts for look in range(len(text.looks))]
-        asked_values = [values for of_text in case.answer.asked_values for values in of_text]
-        progress, true = Progress("states are asked", len(looks), shows_progress), set[tuple[int, ...]]()
-        for number, ((text, look), values) in enumerate(zip(looks, asked_values), 1):
-            if case.asked and values <= true:
-                continue
-            steps = case.write("asked.steps", "".join(step + "\n" for step in text.steps_to(look)))
-            words = ("images", "--count", "--all", self.options.all, text.file, "--steps", steps)
-            status, told, _ = case.px86.report(*words)
-            if status == 1:
-                progress.done()
-                return Image(text, look, tuple(told["all"]["image"]))
-            if status:
-                _, _, said = case.px86.report(*words, explains=True)
-                raise Failed(f"--all: {said}{self.meant_name(said)}")
-            true |= values
-            progress.at(number)
-        progress.done()
-        os.remove(self.path("asked.steps"))
-        return None
+    def first_false(self) -> Image | None:
+        """The first image that makes the condition false, or none."""
+        try:
+            false = self.case.answer.false
+        except NoCondition as fault:
+            raise Failed(self.explained(fault)) from fault
+        return false[0] if false is not None else None
+
+    def explained(self, fault: NoCondition) -> str:
+        """What px86 says of a condition that is none."""
+        words = ("images", "--count", "--all", self.options.all, self.path("text1.litmus"))
+        _, _, said = self.case.px86.report(*words, explains=True)
+        return f"--all: {said}{self.meant_name(said)}" if said else str(fault)
 
     def meant_name(self, said: str) -> str:
         """A line with the word that may have been meant by an unknown name of the condition; nothing after another fault."""
@@ -306,7 +296,7 @@ class Questions:
         self.report.say(f"  {what}: {said}")
         self.report.note(said=said)
         steps = self.case.write("bad.steps", "".join(step + "\n" for step in image.text.steps_to(image.look)))
-        shown = Shown(image.text, image.look, image.values, steps)
+        shown = Shown(image.text, image.look, image.values, steps, self.case.answer.left_of(image))
         say_image(self.report, self.case.px86, self.case.places, shown, asked=asked, accepts=accepts)
 
     def accepts_image(self, image: Image, acknowledged: int, verdict: Verdict) -> Accepts | None:
@@ -487,7 +477,7 @@ class Questions:
             raise Late("its images are not listed")
         folder = self.path("mend")
         folders.make(folder)
-        other = Questions(self.options, replace(self.case, recording=recording, folder=folder), Report(is_quiet=True))
+        other = Questions(self.options, replace(self.case, recording=recording, folder=folder, condition=None), Report(is_quiet=True))
         images = in_order(other.case.answer.images)
         bad = other.first_bad(images, Progress("memories with a repair are checked", len(images)), repairs.until)
         if bad is None:
@@ -550,14 +540,9 @@ class Questions:
             raise recoveries.too_large[key]
 
     def recoveries(self, branches: Branches) -> Recoveries:
-        options, asks = self.options, None
-        if options.all is not None:
-
-            def asks(case: Case) -> Image | None:
-                return Questions(options, case, self.report).first_false()
-
+        options, folder = self.options, self.path("recovery")
         seconds = options.seconds_to_record
-        return Recoveries(options.recovery, options.check, seconds, options.step, self.case, self.path("recovery"), asks, branches)
+        return Recoveries(options.recovery, options.check, seconds, options.step, self.case, folder, options.all, branches)
 
     def show_recovery(self, leaf: Leaf, worker: RecoveryWorker, narrow: Narrow) -> int:
         """What is said of a recovery of which a crash leaves what is not good. It is recorded again, on such a memory."""
@@ -672,7 +657,8 @@ class Questions:
         places = Places(recording)
         refuse_what_is_not_recorded(recording, places)
         asked = frozenset(asked_words(options.all, self.case.names, recording.size))
-        return Case(recording, places, folder, self.case.px86, self.case.names, MOST_INSTRUCTIONS, asked, jobs=options.jobs)
+        case, px86, names = self.case, self.case.px86, self.case.names
+        return Case(recording, places, folder, px86, names, MOST_INSTRUCTIONS, asked, jobs=case.jobs, condition=options.all)
 
 
 class Acceptance:

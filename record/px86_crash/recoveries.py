@@ -24,7 +24,6 @@ from .branches import Branches, Point, Points, followed
 from .checker import Verdict
 from .explore import MOST_LEAVES, Explorer, Leaf, Worker, refuse_other_reads
 from .faults import Failed, Refused, TooLarge
-from .images import Image
 from .memory_files import MemoryFile
 from .places import Places
 from .readers import Reader, Seen
@@ -233,8 +232,8 @@ class Recoveries:
     step: bool
     case: Case
     folder: str
-    # Makes a condition false, of the images of a recording; none of them if no condition is asked.
-    first_false: Callable[[Case], Image | None] | None
+    # What is to hold in each image of a recovery, if something is.
+    condition: str | None
     branches: Branches
     found: dict[Key, Crashed] = field(default_factory=dict)
     too_large: dict[Key, Refused] = field(default_factory=dict)
@@ -260,8 +259,8 @@ class Recoveries:
         return recording
 
     def case_of(self, recording: Recording, folder: str, places: Places) -> Case:
-        case = self.case
-        return Case(recording, places, folder, case.px86, case.names, MOST_INSTRUCTIONS, case.asked, True, case.jobs)
+        case, most, condition = self.case, MOST_INSTRUCTIONS, self.condition
+        return Case(recording, places, folder, case.px86, case.names, most, case.asked, True, case.jobs, condition=condition)
 
 
 class RecoveryWorker(Worker):
@@ -326,11 +325,11 @@ class RecoveryWorker(Worker):
     # --- a crash of it
 
     def verdict_of(self, recording: UnknownRecording, cuts: Cuts, key: Key, crashed: Crashed) -> Verdict:
-        if self.all.first_false is not None:
+        if self.all.condition is not None:
             folder = self.all.path(f"condition{self.name}")
             folders.make(folder)
             plain = Recording(recording.path, self.all.case.map_nontemporal, recording.ignored, recording.grain)
-            if self.all.first_false(self.all.case_of(plain, folder, self.all.case.places)) is not None:
+            if self.all.case_of(plain, folder, self.all.case.places).answer.false is not None:
                 crashed.makes_false = True
                 return Verdict("bad", "")
         states = [CrashState(state, cuts, recording) for state in states_of(recording)]

@@ -8,10 +8,10 @@ import shlex
 import subprocess
 import sys
 import time
-from collections.abc import Callable, Collection, Iterable, Mapping, Sequence
+from collections.abc import Callable, Iterable, Mapping, Sequence
 from typing import Any
 
-from .emulator import TOP, Px86
+from .emulator import TOP, Left, Px86
 from .faults import Failed, plural
 from .places import Places
 from .recording import NEVER_FLUSHED, WORD, Operation, Recording
@@ -236,29 +236,16 @@ def say_not_followed(report: Report, facts: Mapping[str, int], what: str) -> Non
 
 
 class Shown:
-    """An image of a text that is not accepted: the steps to its memory, and the values of the text's words. If it is known already, what
-    its words have persisted with, and which of the pending list have to persist, by px86."""
+    """An image of a text that is not accepted: the steps to its memory, the values of the text's words, and what is known of it."""
 
-    def __init__(
-        self,
-        text: Text,
-        look: int,
-        values: Sequence[int],
-        steps_file: str,
-        persisted: Mapping[int, int] | None = None,
-        kept: Collection[int] | None = None,
-    ) -> None:
-        self.text, self.values, self.steps_file = text, values, steps_file
+    def __init__(self, text: Text, look: int, values: Sequence[int], steps_file: str, left: Left | None = None) -> None:
+        self.text, self.look, self.values, self.steps_file, self.left = text, look, values, steps_file, left
         self.pending: list[Operation] = text.looks[look].pending
-        self.persisted, self.kept = persisted, kept
 
     def stores(self, px86: Px86, asked: Iterable[int]) -> tuple[list[Operation], list[Operation]]:
         """The lost and the kept stores. Of the lost ones those stand first whose words were asked for, as they were asked for."""
         text = self.text
-        kept = px86.least_set(text.file, self.steps_file, self.values) if self.kept is None else self.kept
-        persisted = self.persisted
-        if persisted is None:
-            persisted = dict(zip(text.words, px86.persisted(text.file, self.steps_file)))
+        kept, persisted = self.left or px86.left(text, self.look, self.values)
         stores = [(place, operation) for place, operation in enumerate(self.pending) if operation.stores]
         last = max((place for place, _ in stores if place in kept), default=len(self.pending))
         changing = changing_stores(self.pending, persisted)

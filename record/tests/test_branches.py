@@ -19,13 +19,14 @@ from test_states import all_cuts, draw_pending, history_of_zeros
 
 from px86_crash.branches import Points, grouped, pending_of
 from px86_crash.checker import Verdict
-from px86_crash.conversation import MOST_LINES, Changes, Conversation, Entry, Numbered, at_once, steps_of, text_of_lines
+from px86_crash.conversation import MOST_LINES, Changes, Conversation, Entry, Numbered, steps_of, text_of_lines
 from px86_crash.explore import Explorer, Worker
 from px86_crash.faults import Failed
 from px86_crash.readers import Seen
 from px86_crash.recording import ACKNOWLEDGED, Kind, Operation
 from px86_crash.report import Progress
 from px86_crash.states import Cuts, State
+from px86_crash.talk import Talk
 from px86_crash.text import Names
 
 
@@ -137,13 +138,13 @@ class BranchesTest(unittest.TestCase):
     def test_the_steps_from_one_list_to_the_next(self) -> None:
         """Lists of which the flushes stand elsewhere have the same filling; the steps of others are made anew from where they differ."""
         said: list[str] = []
-        conversation = Conversation("", {})
-        conversation.want = lambda line: None  # type: ignore[method-assign]
-        conversation.say = lambda lines: said.extend(lines)  # type: ignore[method-assign]
+        conversation, talk = Conversation("", {}), Talk.__new__(Talk)
+        for name, instead in {"want": lambda form: None, "say": said.extend}.items():
+            setattr(talk, name, instead)
         made: list[str] = []
         for number, entries in enumerate(lists_in_a_row()):
             said.clear()
-            conversation.go_to(*steps_of(entries))
+            conversation.go_to(talk, *steps_of(entries))
             for line in said:
                 if line.startswith("back "):
                     del made[len(made) - int(line[5:]) :]
@@ -184,13 +185,6 @@ class BranchesTest(unittest.TestCase):
         found = list(grouped(units, lambda lines: len(lines) <= 2))
         self.assertEqual([sorted(lines) for lines, _ in found], [[0, 1], [2, 3]])
         self.assertEqual([[points for (points,) in some.values()] for _, some in found], [["a", "b"], ["c", "d"]])
-
-    def test_what_is_said_at_once(self) -> None:
-        lines = [f"step {number}" for number in range(9000)]
-        some = list(at_once(lines))
-        self.assertEqual([line for part in some for line in part], lines)
-        self.assertLessEqual(max(sum(len(line) + 1 for line in part) for part in some), 1 << 15)
-        self.assertEqual([list(part) for part in at_once(["x" * 40000, "y"])], [["x" * 40000], ["y"]])
 
 
 def operations_of(entries: Sequence[Entry]) -> list[Operation]:

@@ -177,7 +177,7 @@ class DefaultTest(unittest.TestCase):
 
         options: Any = SimpleNamespace(schedules=None, seed=None, out="out")
         turn = Turn("here", 1, 1, (1, 2))
-        patched = {"threads_of": lambda log: threads, "read_turns": lambda path: [turn] * turns}
+        patched: dict[str, Any] = {"threads_of": lambda log: threads, "read_turns": lambda path: [turn] * turns}
         with mock.patch.multiple("px86_crash.command", **patched):
             with mock.patch("px86_crash.command.stepper.is_input_there_again", lambda: self.is_input_there_again):
                 self.report = report
@@ -202,7 +202,8 @@ class DefaultTest(unittest.TestCase):
 
     def test_all_are_accepted(self) -> None:
         """The notes of all orders are said, and YES says what it says of each."""
-        for delays, scope in (([True, False], AT_ONCE), ([], f"by the checker, {AT_ONCE}; by the condition, {LATER}")):
+        rows: list[tuple[list[bool], str]] = [([True, False], AT_ONCE), ([], f"by the checker, {AT_ONCE}; by the condition, {LATER}")]
+        for delays, scope in rows:
             self.delays = list(delays)
             status, lines = self.answer(2, 0)
             self.assertEqual(self.made, 1 + ORDERS_BY_DEFAULT)

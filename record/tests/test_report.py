@@ -21,7 +21,7 @@ sys.path.insert(0, os.path.dirname(os.path.dirname(os.path.abspath(__file__))))
 
 from px86_crash.checker import Verdict
 from px86_crash.command import parser
-from px86_crash.emulator import Px86, fault_in
+from px86_crash.emulator import Left, Px86, fault_in
 from px86_crash.faults import Failed
 from px86_crash.questions import Acceptance, asked_words, meant_by_name
 from px86_crash.recording import Kind, Operation
@@ -43,11 +43,8 @@ class Answers:
     def __init__(self, kept: set[int]) -> None:
         self.kept = kept
 
-    def least_set(self, file: str, steps: str, values: Any) -> set[int]:
-        return self.kept
-
-    def persisted(self, file: str, steps: str) -> list[int]:
-        return [0, 0, 0, 0]
+    def left(self, text: Text, look: int, values: Any) -> Left:
+        return Left(self.kept, dict.fromkeys(text.words, 0))
 
 
 class LostStores(unittest.TestCase):
@@ -103,11 +100,15 @@ class LostStores(unittest.TestCase):
         operations = [stored(8 * number, 1, number) for number in range(20)] + [stored(0x200, 1, 99)]
         self.text = Text(operations, [0], {}, {}, Names(), [Look([], [], operations, 0)])
         px86: Any = Answers({20})
-        px86.persisted = lambda file, steps: [0] * 21
         asked: list[int] = []
+
+        def accepts(store: Operation) -> bool:
+            asked.append(store.word)
+            return False
+
         report = Report(is_quiet=True)
         shown = Shown(self.text, 0, [0] * 20 + [1], "steps")
-        say_image(report, px86, PLACES, shown, read=[0x98, 0x90], accepts=lambda store: asked.append(store.word) is not None)
+        say_image(report, px86, PLACES, shown, read=[0x98, 0x90], accepts=accepts)
         self.assertEqual(asked, [0x98, 0x90, 0x0, 0x8, 0x10, 0x18, 0x20, 0x28])
 
     def test_a_count_of_changes_has_the_line_behind_it(self) -> None:
@@ -179,14 +180,8 @@ class Json(unittest.TestCase):
 
     def test_images(self) -> None:
         self.assertEqual(self.px86({"set": [0, 2]}).least_set("file", "steps", [1, 2]), {0, 2})
-        self.assertTrue(self.px86({"set": []}).is_image("file", "steps", [1]))
-        self.assertFalse(self.px86({"set": None}, 1).is_image("file", "steps", [1]))
-        with self.assertRaisesRegex(Failed, "no set"):
-            self.px86({"set": None}, 1).least_set("file", "steps", [1])
-
-    def test_run(self) -> None:
-        words = [{"word": "x", "coherent": 2, "persisted": 2**64 - 1}, {"word": "y", "coherent": 0, "persisted": 0}]
-        self.assertEqual(self.px86({"state": {"words": words}}).persisted("file", "steps"), [2**64 - 1, 0])
+        self.assertEqual(self.px86({"set": []}).least_set("file", "steps", [1]), set())
+        self.assertIsNone(self.px86({"set": None}, 1).least_set("file", "steps", [1]))
 
     def test_faults(self) -> None:
         fault = json.dumps({"fault": {"name": "BadCond", "number": "E1", "place": "4", "sentence": "E1: a token."}})
@@ -198,7 +193,7 @@ class Json(unittest.TestCase):
         for said in "", "X1 BadWord line 4", "[1]", '{"other": 1}':
             self.assertEqual(fault_in(said), said)
         with self.assertRaisesRegex(Failed, "status 2: E1 BadCond 4"):
-            self.px86("", 2, fault).persisted("file", "steps")
+            self.px86("", 2, fault).least_set("file", "steps", [1])
 
     def test_pictures(self) -> None:
         """A run of more steps than are drawn has no picture, and nothing is said of it. (Here none can be drawn.)"""

@@ -39,8 +39,10 @@ def draw_loop(generator: random.Random) -> list[Operation]:
 
     def draw_other() -> None:
         kind, thread = generator.choice([*4 * [Kind.STORE], Kind.OPTIMIZED_FLUSH, Kind.STORE_FENCE]), generator.choice([0, 1, 1, 1])
-        word = () if kind is Kind.STORE_FENCE else (generator.choice(LINES), len(drawn) + 1)
-        drawn.append(Operation(kind, thread, "", *word))
+        if kind is Kind.STORE_FENCE:
+            drawn.append(Operation(kind, thread, ""))
+        else:
+            drawn.append(Operation(kind, thread, "", generator.choice(LINES), len(drawn) + 1))
 
     for _ in range(generator.randint(0, 2)):
         draw_other()
