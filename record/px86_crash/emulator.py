@@ -27,8 +27,11 @@ def find_px86() -> str:
         return path
     if named:
         raise Failed(f"the variable PX86 names {named}, which is no program")
-    script = os.path.relpath(os.path.join(TOP, "px86"))
-    raise Failed(f"px86 is not built: run {script} --version, which proves and builds it, once")
+    script = os.path.join(os.path.relpath(TOP), "px86")
+    raise Failed(
+        f"px86 is not built: run {script} --version, which proves and builds it, once."
+        f" Until then run {script} --unproved --version, and export PX86={path}.unproved"
+    )
 
 
 class Left(NamedTuple):
