@@ -40,6 +40,12 @@ class NotRun(str):
 Checks = Iterator[tuple[str, str]]
 
 
+def absent(name: str, checks: Iterable[object]) -> Checks:
+    """As many checks, which need what is absent here."""
+    for _ in checks:
+        yield "", NotRun(f"{name} is absent")
+
+
 # --- runs
 
 

@@ -15,7 +15,7 @@ import sys
 from collections.abc import Callable, Iterator
 from typing import Any
 
-from tests.harness import TOP, Case, Checks, Done, NotRun, Px86, run, unlike
+from tests.harness import TOP, Case, Checks, Done, Px86, absent, run, unlike
 
 sys.dont_write_bytecode = True
 sys.path += [f"{TOP}/look/tests", f"{TOP}/look"]
@@ -80,7 +80,7 @@ def page(px86: Px86) -> Checks:
     """The page in Chromium."""
     done = of_page(px86)
     if done is None:
-        yield from (("", NotRun("Chromium is absent")) for _ in range(OF_PAGE))
+        yield from absent("Chromium", range(OF_PAGE))
         return
     ended = re.search(r"^(\d+) passed, (\d+) failed\n\Z", done.out, re.M)
     yield "look/test-page ends as it should", "" if ended else f"{done.out[-600:]}{done.err[-600:]}"
