@@ -20,7 +20,10 @@ from types import ModuleType
 from tests.harness import CORES, TOP, Case, run_parts
 
 # In the order in which they begin: those that take long come first.
-PARTS = "model every-run schedules gallery failing-devices streams conversation texts objects picture documents editors from-help view-changes-nothing unproved".split()
+PARTS = """
+model every-run mend look schedules gallery failing-devices streams conversation texts objects picture documents editors from-help
+view-changes-nothing unproved
+""".split()
 
 
 def module_of(part: str) -> ModuleType:

@@ -14,7 +14,7 @@ import shutil
 from collections.abc import Iterable, Iterator
 from typing import Any
 
-from tests.harness import TOP, Case, Checks, NotRun, Px86, read, run, unlike
+from tests.harness import TOP, Case, Checks, Px86, absent, read, run, unlike
 
 AT_LEAST = {"": 437}
 NEEDS_PROGRAM = False
@@ -209,7 +209,7 @@ def of_examples(_: Px86) -> Checks:
 def by_vim(px86: Px86) -> Checks:
     """Vim tells the tokens that were sorted by hand, which texts are of its type, and of each example what TextMate tells."""
     if not shutil.which("vim"):
-        yield from (("", NotRun("vim is absent")) for _ in range(len(SORTED) + 2 + len(examples())))
+        yield from absent("vim", range(len(SORTED) + 2 + len(examples())))
         return
     by_hand = px86.keep("sorted.litmus", "".join(f"{line}\n" for line, _ in SORTED))
     other = px86.keep("other.litmus", 'X86 SB\n"litmus 1"\n{ x=0; }\n P0 ;\n')

@@ -12,7 +12,7 @@ import shutil
 import time
 from collections.abc import Callable, Iterator
 
-from tests.harness import TOP, Case, Checks, NotRun, Px86, Terminal, commands_of, run, unlike
+from tests.harness import TOP, Case, Checks, Px86, Terminal, absent, commands_of, differs, run, unlike
 
 AT_LEAST = {"": 219}
 NEEDS_PROGRAM = True
@@ -25,11 +25,6 @@ def made(px86: Px86, kind: str) -> str:
     if done.status:
         raise AssertionError(f"tools/from-help made no {kind}: {done.err[:300]}")
     return px86.keep(f"px86.{kind}", done.written)
-
-
-def absent(names: str, checks: Checks) -> Checks:
-    """These checks, which need what is not there."""
-    yield from ((name, NotRun(f"{names} is absent")) for name, _ in checks)
 
 
 # --- the help
@@ -86,14 +81,13 @@ def page(text: Help, shown: str) -> Checks:
     for command in text.commands:
         lines = sections.get(f"px86 {command}", [])
         yield f"options of {command}", unlike(names_in(lines), text.options[command])
-        yield f"all words of {command}", unlike(" ".join(lines).split(), words_of_help(text.texts[command]))
+        yield f"all words of {command}", differs("\n".join(" ".join(lines).split()), "\n".join(words_of_help(text.texts[command])))
 
 
 def manual(px86: Px86) -> Checks:
     path, options = made(px86, "manual"), ["--no-hyphenation", "--no-justification", "--encoding=ascii", "--local-file"]
     if not shutil.which("man") or not shutil.which("groff"):
-        yield "what groff warns of", NotRun("groff is absent")
-        yield from absent("man or groff", page(Help(px86), ""))
+        yield from absent("man or groff", ["what groff warns of", *page(Help(px86), "")])
         return
     warned = run(["groff", "-man", "-Tutf8", "-ww", "-z", path])
     yield "what groff warns of", unlike((warned.status, warned.err), (0, ""))

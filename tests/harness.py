@@ -1,8 +1,9 @@
 """What the parts of the tests are made of: cases, and runs of programs that have bytes, a status and a time limit.
 
 A part is a module with `cases()`, which gives its cases, and `AT_LEAST`, which says how many checks they make at least: in all
-(``""``), or of the cases whose name begins with a word. A case has a name, and a function that gives, one after another, what it
-checks, and what is wrong there: nothing where the check passes. Each check is counted.
+(``""``), or those whose name, behind that of the case, begins with a word, in which `*` is anything. A case has a name, and a
+function that gives, one after another, what it checks, and what is wrong there: nothing where the check passes. Each check is
+counted.
 """
 
 from __future__ import annotations
@@ -11,6 +12,7 @@ import atexit
 import collections
 import concurrent.futures
 import dataclasses
+import fnmatch
 import functools
 import multiprocessing
 import os
@@ -36,6 +38,12 @@ class NotRun(str):
 
 
 Checks = Iterator[tuple[str, str]]
+
+
+def absent(name: str, checks: Iterable[object]) -> Checks:
+    """As many checks, which need what is absent here."""
+    for _ in checks:
+        yield "", NotRun(f"{name} is absent")
 
 
 # --- runs
@@ -260,7 +268,7 @@ class Case(unittest.TestCase):
 
 
 class Tally(unittest.TestResult):
-    """How many checks passed, failed and were not run, by the names of their cases, and what is said of those that did not pass."""
+    """How many checks passed, failed and were not run, by their names, and what is said of those that did not pass."""
 
     def __init__(self) -> None:
         super().__init__()
@@ -269,16 +277,20 @@ class Tally(unittest.TestResult):
         self.lines: list[str] = []
 
     def addSubTest(self, test: Any, subtest: Any, err: Any) -> None:
-        self.counts[test.name] += 1
+        self.made(subtest)
         if err is None:
             self.passed += 1
         else:
             self.fails(subtest, err)
 
     def addSkip(self, test: Any, reason: str) -> None:
-        self.counts[getattr(test, "test_case", test).name] += 1
+        self.made(test)
         self.not_run += 1
         self.lines.append(f"not run: {told(test)}: {reason}")
+
+    def made(self, test: Any) -> None:
+        """Counts a check by the names of its case and its own."""
+        self.counts[f"{getattr(test, 'test_case', test).name}: {getattr(test, 'params', {}).get('check', '')}"] += 1
 
     def addFailure(self, test: Any, err: Any) -> None:
         self.fails(test, err)
@@ -305,10 +317,10 @@ class Tally(unittest.TestResult):
     def want(self, part: str, at_least: Mapping[str, int]) -> None:
         """Counts as failed where a part made fewer checks than it has at least, since a loop ran over nothing."""
         for word, least in at_least.items():
-            made = sum(count for name, count in self.counts.items() if name.startswith(word))
+            made = sum(count for name, count in self.counts.items() if fnmatch.fnmatchcase(name, f"{word}*"))
             if made < least:
                 self.failed += 1
-                print(f"FAILED: {part}: there are {made} checks{f' of cases that begin with {word}' if word else ''}, and at least {least}")
+                print(f"FAILED: {part}: there are {made} checks{f' whose name begins with {word}' if word else ''}, and at least {least}")
 
     def verdict(self) -> int:
         """Says the sum, and gives the exit status."""
@@ -350,6 +362,7 @@ def sum_of(tallies: Iterable[Tally]) -> Tally:
     """The sum of tallies, of which is said what they say."""
     total = Tally()
     for tally in tallies:
-        print(end="".join(f"{line}\n" for line in tally.lines), flush=True)
+        for line, count in collections.Counter(tally.lines).items():
+            print(line if count == 1 else f"{line} ({count} times)", flush=True)
         total.add(tally)
     return total
