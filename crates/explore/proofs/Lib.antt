@@ -80,3 +80,5 @@ pub mod TrailsGoOn
 pub mod LinesWithoutWrites
 pub mod HeldThrough
 pub mod MarksHold
+pub mod KeyChains
+pub mod LinksKept

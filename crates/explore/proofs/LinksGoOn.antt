@@ -68,7 +68,7 @@ link_at (x ∷ links) paths (suc k) link there =
     let here : length more + k ≡ length paths + suc k = omega (arith, long) in
     subst (λ (n : ℕ). LinkAt (linked more links) n link) here (link_at links more k link there)
 
-steps_is : (links : List Link) (at : ℕ) (link : Link) → slice_get links at ≡ Some link → steps_at links at ≡ link.steps
+pub steps_is : (links : List Link) (at : ℕ) (link : Link) → slice_get links at ≡ Some link → steps_at links at ≡ link.steps
 steps_is links at link there = ap (λ (o : Option Link). option_map_or (λ l. l.steps) o []) there
 
 module _ (links : List Link) (at : ℕ) (link : Link) (there : slice_get links at ≡ Some link) where

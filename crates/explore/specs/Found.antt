@@ -21,6 +21,12 @@ pub record Link : Type 0 where
   pub parent : ℕ
   pub steps : List Step
 
+-- the links from these states, by these steps
+abbrev pub links_of : List ℕ → List (List Step) → List Link
+links_of [] paths = []
+links_of (parent ∷ parents) [] = []
+links_of (parent ∷ parents) (steps ∷ paths) = record { parent = parent; steps = steps } ∷ links_of parents paths
+
 -- the list at a place; none, where there is no such place
 abbrev pub path_at : List (List Step) → ℕ → List Step
 path_at paths i = slice_index_or paths i []

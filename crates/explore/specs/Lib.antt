@@ -17,6 +17,7 @@ pub mod Ahead
 pub mod Falls
 pub mod Trails
 pub mod Codes
+pub mod KeyTables
 pub mod LineSets
 pub mod Keys
 pub mod Found

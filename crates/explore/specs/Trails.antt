@@ -8,7 +8,7 @@ use Rattle.machine.specs.Steps.{run_of}
 
 -- after each so many steps a machine is kept
 abbrev pub distance : ℕ
-distance = 8
+distance = 16
 
 -- the last of so many machines that are kept; the start, where none is
 abbrev pub nearest : State → List State → ℕ → State

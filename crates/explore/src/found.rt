@@ -5,39 +5,21 @@ ghost use Rattle.std.specs.Cmp.Lexicographic.{pointwise};
 ghost use Rattle.explore.specs.Found.{added, added_after, linked, no_states, path_at, steps_at, HasNode, HasPath, IsBefore};
 
 use crate::key::Key;
+use crate::keys::Keys;
+use crate::links::Links;
 use crate::node::Node;
 use crate::path::Path;
-use indexmap::IndexSet;
 use machine::Step;
 use std::alloc::{AllocError, Global};
 use std::marker::Model;
-
-/// How a state was found: from the one of number `parent`, by these steps.
-#[derive(Debug, Drop)]
-pub(crate) struct Link {
-    parent: usize,
-    /// Mostly the only step.
-    first: Option<Step>,
-    more: Vec<Step>,
-}
-
-impl Model for Link {
-    ghost use Rattle.std.specs.Prelude.{[], ◌∷◌, ◌++◌};
-    ghost use Rattle.std.specs.Option.{option_map_or};
-    ghost use Rattle.explore.specs.Found.{Link};
-
-    ghost Value = { Link };
-
-    ghost view = { λ l. record { parent = l.parent; steps = option_map_or (λ step. step ∷ []) l.first [] ++ l.more.items } };
-}
 
 /// The states that were found: how, and their keys.
 #[derive(Drop)]
 pub(crate) struct Found {
     /// Whether keys tell what each line may hold.
     sets: bool,
-    links: Vec<Link>,
-    keys: IndexSet<Key>,
+    links: Links,
+    keys: Keys,
 }
 
 impl Model for Found {
@@ -46,7 +28,7 @@ impl Model for Found {
 
     ghost Value = { Found };
 
-    ghost view = { λ f. record { sets = f.sets; paths = linked [] f.links.items; keys = f.keys.keys } };
+    ghost view = { λ f. record { sets = f.sets; paths = linked [] f.links; keys = f.keys } };
 }
 
 /// Appends steps, the last one first.
@@ -59,74 +41,26 @@ fn push_back(back: &mut Vec<Step>, steps: &[Step]) -> Result<(), AllocError>
     Ok(())
 }
 
-impl Link {
-    /// The link from the state of number `parent` by these steps.
-    fn new(alloc: Global, parent: usize, steps: &[Step]) -> Result<Link, AllocError>
-        ensures { IfOk result (λ link. link ≡ record { parent = parent; steps = steps.now }) }
-    {
-        match steps {
-            [first, more @ ..] => Ok(Link {
-                parent,
-                first: Some(*first),
-                more: Vec::from_slice(alloc, more)?,
-            }),
-            [] => Ok(Link {
-                parent,
-                first: None,
-                more: Vec::new(alloc),
-            }),
-        }
-    }
-
-    /// How many steps it has.
-    fn len(&self) -> usize {
-        match self.first {
-            Some(_) => 1 + self.more.len(),
-            None => 0,
-        }
-    }
-
-    /// Appends the steps, the last one first.
-    fn push_back(&self, back: &mut Vec<Step>) -> Result<(), AllocError>
-        ensures { OnOk result (back.new.items ≡ back.old.items ++ reverse self.now.steps) }
-    {
-        push_back(back, &self.more)?;
-        if let Some(first) = self.first {
-            back.push(first)?;
-        }
-        Ok(())
-    }
-}
-
 /// The number of the state from which another was found; None for the first.
-fn before(links: &[Link], at: usize) -> Option<usize>
+fn before(links: &Links, at: usize) -> Option<usize>
     requires { at < length links.now }
     ensures { IsBefore (linked [] links.now) links.now at result }
 {
-    let link = &links[at];
-    let parent = link.parent;
+    let parent = links.parent(at);
     if parent < at { Some(parent) } else { None }
 }
 
-/// By how many steps a state was found from another.
-fn steps_from_parent(links: &[Link], at: usize) -> usize
-    requires { at < length links.now }
-{
-    let link = &links[at];
-    link.len()
-}
-
 /// Appends the last steps to a state, the last one first.
-fn push_link(links: &[Link], at: usize, back: &mut Vec<Step>) -> Result<(), AllocError>
+fn push_link(links: &Links, at: usize, back: &mut Vec<Step>) -> Result<(), AllocError>
     requires { at < length links.now }
     ensures { OnOk result (back.new.items ≡ back.old.items ++ reverse (steps_at links.now at)) }
 {
-    let link = &links[at];
-    link.push_back(back)
+    push_back(back, links.steps(at))?;
+    Ok(())
 }
 
 /// The steps from the start to a state. A list of others is room for them.
-fn steps_to(links: &[Link], at: usize, room: Vec<Step>) -> Result<Vec<Step>, AllocError>
+fn steps_to(links: &Links, at: usize, room: Vec<Step>) -> Result<Vec<Step>, AllocError>
     requires { at < length links.now }
     ensures { IfOk result (λ steps. steps.items ≡ path_at (linked [] links.now) at) }
 {
@@ -148,8 +82,8 @@ impl Found {
     {
         Found {
             sets,
-            links: Vec::new(alloc),
-            keys: IndexSet::new(alloc),
+            links: Links::new(alloc),
+            keys: Keys::new(alloc),
         }
     }
 
@@ -164,8 +98,7 @@ impl Found {
     pub(crate) fn len(&self) -> usize
         ensures { result ≡ length self.now.paths }
     {
-        let links: &[Link] = &self.links;
-        links.len()
+        self.links.len()
     }
 
     /// The steps from the start to a state. Another path is room for them.
@@ -180,14 +113,14 @@ impl Found {
     pub(crate) fn steps_from_parent(&self, at: usize) -> usize
         requires { at < length self.now.paths }
     {
-        steps_from_parent(&self.links, at)
+        self.links.steps(at).len()
     }
 
     /// Whether a state with this key was found.
     pub(crate) fn has(&self, key: &Key) -> bool
         ensures { result ≡ list_any (pointwise nat_eq key.now) self.now.keys }
     {
-        self.keys.contains(key)
+        self.keys.has(key.bytes())
     }
 
     /// Adds a state with this key, which steps from another lead to, unless the key is there.
@@ -200,10 +133,11 @@ impl Found {
     ) -> Result<(), AllocError>
         ensures { OnOk result (self.new ≡ added_after self.old parent key steps.now) }
     {
-        let (_, is_new) = self.keys.insert_full(key)?;
-        if is_new {
-            self.links.push(Link::new(alloc, parent, steps)?)?;
+        if self.keys.has(key.bytes()) {
+            return Ok(());
         }
+        self.keys.push(alloc, key.bytes())?;
+        self.links.push(parent, steps)?;
         Ok(())
     }
 

@@ -1,13 +1,10 @@
 //! The key of a state.
 ghost use Rattle.std.specs.Prelude.{◌≡◌, ℕ, ◌+◌, ◌<◌, ◌≤◌, ◌++◌, [], ◌∷◌, List, IfOk, OnOk, Some, false, true, map, nat_eq, option_map, slice_get, slice_index};
 ghost use Rattle.std.specs.List.{range_with_len};
-ghost use Rattle.std.specs.Cmp.{partial_equiv_from_equiv};
-ghost use Rattle.std.specs.Cmp.Lexicographic.{nat_list_eq_equiv, pointwise};
 ghost use Rattle.lines_layout.specs.Lines.{max_words};
 ghost use Rattle.explore.specs.Codes.{coded};
 ghost use Rattle.explore.specs.Keys.{base_image, canonical_key, cpus_key, entries_key, entry_key, fallen_key, fallen_memory_key, head_key, key_at, key_of, list_key, memory_key, pending_key, pending_list_key, pendings_key, registers_key, restarted_key};
 ghost use Rattle.explore.specs.Outcomes.{trap_numbers};
-ghost use Rattle.explore.specs.SameKeys.{same_written_input};
 
 use crate::canonical::canonical;
 use crate::codes::{push_number, push_numbers};
@@ -19,7 +16,6 @@ use lines_layout::{LINE_WORDS, WordId};
 use machine::View;
 use persist_buffer::{Pending, PendingEntry};
 use std::alloc::{AllocError, Global};
-use std::hash::{Hash, Hasher};
 use std::marker::Model;
 use store_buffer::Entry;
 
@@ -41,30 +37,6 @@ impl Model for Key {
     ghost view = { λ k. k.bytes.items };
 }
 
-impl PartialEq for Key {
-    ghost eq = { pointwise nat_eq };
-
-    ghost laws = { partial_equiv_from_equiv nat_list_eq_equiv };
-
-    fn eq(&self, other: &Key) -> bool {
-        self.bytes == other.bytes
-    }
-}
-
-impl Eq for Key {
-    ghost laws = { nat_list_eq_equiv };
-}
-
-impl Hash for Key {
-    ghost hash_input = { λ k. k ∷ [] };
-
-    ghost respects_eq = { same_written_input };
-
-    fn hash<H: Hasher>(&self, state: &mut H) {
-        state.write(self.bytes.as_slice());
-    }
-}
-
 impl Key {
     /// The key of these bytes, with no room to spare.
     fn of(alloc: Global, bytes: &[u8]) -> Result<Key, AllocError>
@@ -80,6 +52,13 @@ impl Key {
         Key {
             bytes: Vec::new(alloc),
         }
+    }
+
+    /// Its bytes.
+    pub(crate) fn bytes(&self) -> &[u8]
+        ensures { result.now ≡ self.now }
+    {
+        &self.bytes
     }
 
     /// The same key again, with no room to spare.

@@ -12,7 +12,7 @@
 //! [`find_memories`] makes `fence_memories` of the events; no command uses it.
 //! Definitions to read: `specs/Reachable`, `Ends`, `Outcomes`, `RunImages`, `Ran`, `Findings`, `Questions`, `Asked` (which
 //! candidates count), `Sound` (states of loaded machines). How it is done: `Falls`, `Own`, `Followed`, `Ahead`, `LineSets`,
-//! `Canonical`, `Covering`, `Explored`, `Apart`, `Trails` (machines from along a path).
+//! `Canonical`, `Covering`, `Explored`, `Apart`, `Trails` (machines from along a path), `KeyTables` (how keys are kept).
 #![tactic(auto)]
 
 mod apart;
@@ -27,8 +27,10 @@ mod fault;
 mod found;
 mod gathered;
 mod key;
+mod keys;
 pub mod laws;
 mod line_sets;
+mod links;
 mod looked;
 mod memories;
 mod moves;

@@ -5,14 +5,14 @@ ghost use Rattle.std.specs.Cmp.Lexicographic.{pointwise};
 ghost use Rattle.explore.specs.Sets.{included};
 
 use crate::key::Key;
-use indexmap::IndexSet;
+use crate::keys::Keys;
 use std::alloc::{AllocError, Global};
 use std::marker::Model;
 
 /// The keys of memories whose images were looked at.
 #[derive(Drop)]
 pub(crate) struct Looked {
-    keys: IndexSet<Key>,
+    keys: Keys,
 }
 
 impl Model for Looked {
@@ -20,7 +20,7 @@ impl Model for Looked {
 
     ghost Value = { List (List ℕ) };
 
-    ghost view = { λ l. l.keys.keys };
+    ghost view = { λ l. l.keys };
 }
 
 impl Looked {
@@ -29,7 +29,7 @@ impl Looked {
         ensures { result ≡ [] }
     {
         Looked {
-            keys: IndexSet::new(alloc),
+            keys: Keys::new(alloc),
         }
     }
 
@@ -37,7 +37,7 @@ impl Looked {
     pub(crate) fn has(&self, key: &Key) -> bool
         ensures { result ≡ list_any (pointwise nat_eq key.now) self.now }
     {
-        self.keys.contains(key)
+        self.keys.has(key.bytes())
     }
 
     /// Adds a key, unless it is there, which is told.
@@ -48,7 +48,6 @@ impl Looked {
         if known {
             return Ok(());
         }
-        self.keys.insert(key.copy(alloc)?)?;
-        Ok(())
+        self.keys.push(alloc, key.bytes())
     }
 }

@@ -11,7 +11,7 @@ use std::alloc::{AllocError, Global};
 use std::marker::Model;
 
 /// After each so many steps of a path a machine is kept.
-const DISTANCE: usize = 8;
+const DISTANCE: usize = 16;
 
 /// How many machines are kept at most.
 const ROOM: usize = 64;

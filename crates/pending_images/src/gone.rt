@@ -78,6 +78,10 @@ impl<'a> Gone<'a> {
     pub(crate) fn before(&self, line: LineId) -> usize
         ensures { result ≡ before_in line self.now }
     {
+        if self.pending.writes(line) == 0 {
+            // So it is of most lines, and this is seen at once.
+            return 0;
+        }
         self.pending.before(line, self.markers)
     }
 

@@ -95,3 +95,8 @@ pub record IsRefillable (rings from : List (Buffer StampedEntry)) : Type 0 where
   pub count : length rings ≡ length from
   pub room : (r : ℕ) (d : Buffer StampedEntry) → r < length from → (slice_index_or rings r d).capacity ≡ (slice_index_or from r d).capacity
   pub fits : (r : ℕ) (d : Buffer StampedEntry) → r < length from → length (slice_index_or from r d).items ≤ (slice_index_or from r d).capacity
+
+-- The rings from one on have no entries.
+pub record AreEmptyFrom (used : ℕ) (rings : List (Buffer StampedEntry)) : Type 0 where
+  pub within : used ≤ length rings
+  pub each : (r : ℕ) (d : Buffer StampedEntry) → used ≤ r → r < length rings → (slice_index_or rings r d).items ≡ []

@@ -1,11 +1,11 @@
 //! Rings of pending entries: one for the markers and one for each line. Each entry carries a serial,
 //! and the serials give the order of them all.
-ghost use Rattle.std.specs.Prelude.{◌≡◌, ◌<◌, ◌≤◌, ◌+◌, [], length, IfOk, IsSome, Some, option_copied, find, filter, count_by, map, slice_get, replicate, All};
+ghost use Rattle.std.specs.Prelude.{◌≡◌, ℕ, ◌<◌, ◌≤◌, ◌+◌, [], length, IfOk, IsSome, Some, option_copied, find, filter, count_by, map, slice_get, replicate, All};
 ghost use Rattle.std.specs.List.{list_any, fold};
 ghost use Rattle.lines_layout.specs.Lines.{max_lines};
 ghost use Rattle.persist_buffer.specs.Listings.{LinesBelow};
 ghost use Rattle.persist_buffer.specs.Limits.{serial_limit};
-ghost use Rattle.persist_buffer.specs.Rings.{ring_count, ring_room, ring_of, is_in, all_placed, emptied, empty_ring, joined, entries, Rising, IsRefillable, with_entry};
+ghost use Rattle.persist_buffer.specs.Rings.{AreEmptyFrom, ring_count, ring_room, ring_of, is_in, all_placed, emptied, empty_ring, joined, entries, Rising, IsRefillable, with_entry};
 ghost use Rattle.persist_buffer.specs.Renumbering.{shifted_list, shifted_ring, lesser, Clear, IsLeast};
 ghost use Rattle.persist_buffer.specs.Firsts.{drop_first, before_first, before_nth};
 
@@ -70,12 +70,14 @@ fn copied_rings(alloc: Global, rings: &[Ring]) -> Result<Vec<Ring>, AllocError>
     Ok(copy)
 }
 
-/// Makes the entries of each ring those of the ring that has its number in `from`.
-fn refill_rings(rings: &mut Vec<Ring>, from: &[Ring])
-    requires { IsRefillable rings.old.items from.now }
+/// Makes the entries of each ring those of the ring that has its number in `from`. From the one of number `used` on all are empty.
+fn refill_rings(rings: &mut Vec<Ring>, from: &[Ring], used: usize)
+    requires room { IsRefillable rings.old.items from.now }
+    requires old { AreEmptyFrom used rings.old.items }
+    requires new { AreEmptyFrom used from.now }
     ensures { rings.new.items ≡ from.now }
 {
-    for r in 0..from.len() {
+    for r in 0..used {
         let ring = &mut rings[r];
         ring::refill(ring, &from[r]);
     }
@@ -126,22 +128,33 @@ fn least_of(rings: &[Ring], from: u64) -> u64
     least
 }
 
+/// The greater of two numbers.
+fn most(one: usize, other: usize) -> usize
+    ensures first { one ≤ result }
+    ensures second { other ≤ result }
+    ensures bound { (n : ℕ) → one ≤ n → other ≤ n → result ≤ n }
+{
+    if one < other { other } else { one }
+}
+
 /// Pending entries in rings, in the order of their serials, and the next serial. All room is taken
 /// when they are made.
 #[derive(Drop)]
 pub struct Rings {
     rings: Vec<Ring>,
     next: u64,
+    /// From the ring of this number on all are empty, so that restoring does not look at each: most programs have few lines.
+    used: usize,
 }
 
 impl Model for Rings {
-    ghost use Rattle.persist_buffer.specs.Rings.{StampedList, merged, IsMerged};
+    ghost use Rattle.persist_buffer.specs.Rings.{AreEmptyFrom, StampedList, merged, IsMerged};
 
     ghost Value = { StampedList };
 
     ghost view = { λ a. record { stamped = merged a.rings.items; next = a.next } };
 
-    ghost invariant = { λ a. IsMerged a.rings.items (merged a.rings.items) a.next };
+    ghost invariant = { λ a. IsMerged a.rings.items (merged a.rings.items) a.next × AreEmptyFrom a.used a.rings.items };
 }
 
 // The check opens the invariant in a method that names both fields: hence `let _ = &self.next`.
@@ -152,7 +165,11 @@ impl Rings {
         ensures { IfOk result (λ rings. rings ≡ record { stamped = []; next = first }) }
     {
         let rings = empty_rings(alloc)?;
-        Ok(Rings { rings, next: first })
+        Ok(Rings {
+            rings,
+            next: first,
+            used: 0,
+        })
     }
 
     /// Equal rings, with their own room. The only error is that memory ran out.
@@ -161,7 +178,8 @@ impl Rings {
     {
         let rings = copied_rings(alloc, self.rings.as_slice())?;
         let next = self.next;
-        Ok(Rings { rings, next })
+        let used = self.used;
+        Ok(Rings { rings, next, used })
     }
 
     /// Makes the entries and the next serial those of others. It takes no memory.
@@ -169,8 +187,10 @@ impl Rings {
         ensures { self.new ≡ from.now }
     {
         let next = from.next;
-        refill_rings(&mut self.rings, from.rings.as_slice());
+        let used = most(self.used, from.used);
+        refill_rings(&mut self.rings, from.rings.as_slice(), used);
         self.next = next;
+        self.used = from.used;
     }
 
     /// All entries, in order. The only error is that memory ran out.
@@ -188,6 +208,7 @@ impl Rings {
     {
         let _ = &self.next;
         clear_rings(&mut self.rings);
+        self.used = 0;
     }
 
     /// The next serial.
@@ -244,6 +265,7 @@ impl Rings {
         let ring = &mut self.rings[r];
         ring::append(ring, StampedEntry { serial, entry });
         self.next += 1;
+        self.used = most(self.used, r + 1);
     }
 
     /// Drops the first entry of a ring.

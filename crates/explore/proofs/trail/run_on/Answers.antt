@@ -8,9 +8,9 @@ use Rattle.explore.proofs.trail.run_on.Goals as goal
 pub returns-then-is_some-clause-led : goal.returns-then-is_some-clause-led
 returns-then-is_some-clause-led c =
     let from = distance * c.loop-kept.kept in
-    let refused : is_some (run_of (take (from + 8 - from) (drop from c.args.path.now)) c.loop-kept.here).refusal ≡ true =
+    let refused : is_some (run_of (take (from + 16 - from) (drop from c.args.path.now)) c.loop-kept.here).refusal ≡ true =
     ap (λ (e : End). is_some e.refusal) c.run-refusal.ensures.run ∙ sym c.is_some.ensures ∙ c.if-is_some.true in
-    led_no_further c.args.start.now c.loop-kept.here c.run-refusal.new.self c.args.path.now from (from + 8 - from) c.loop-kept.invariant.here refused (ap (λ (e : End). e.state) c.run-refusal.ensures.run)
+    led_no_further c.args.start.now c.loop-kept.here c.run-refusal.new.self c.args.path.now from (from + 16 - from) c.loop-kept.invariant.here refused (ap (λ (e : End). e.state) c.run-refusal.ensures.run)
 
 pub keep-requires-clause-alike : goal.keep-requires-clause-alike
 keep-requires-clause-alike c =
@@ -31,11 +31,11 @@ loop-kept-preserved c =
     let new = c.run-refusal.new.self in
     let leads = ap (λ (e : End). e.state) c.run-refusal.ensures.run in
     let with_start = ran_siblings start c.loop-kept.here new _ _ c.loop-kept.invariant.here leads in
-    let accepted : (run_of (take (from + 8 - from) (drop from path)) c.loop-kept.here).refusal ≡ None =
+    let accepted : (run_of (take (from + 16 - from) (drop from path)) c.loop-kept.here).refusal ≡ None =
     ap (λ (e : End). e.refusal) c.run-refusal.ensures.run ∙ none_is _ (sym c.is_some.ensures ∙ c.if-is_some.false) in
-    let more : from + (from + 8 - from) ≡ distance * (k + 1) = omega arith in
+    let more : from + (from + 16 - from) ≡ distance * (k + 1) = omega arith in
     let here : IsAlong start (take (distance * (k + 1)) path) new =
-    subst (λ (n : ℕ). IsAlong start (take n path) new) more (further start c.loop-kept.here new path from (from + 8 - from) c.loop-kept.invariant.here accepted leads) in
+    subst (λ (n : ℕ). IsAlong start (take n path) new) more (further start c.loop-kept.here new path from (from + 16 - from) c.loop-kept.invariant.here accepted leads) in
     record {
       along = kept_along start new path c.loop-kept.machines.items c.keep.new.machines.items k c.loop-kept.invariant.along
           (all_alike new start c.keep.new.machines.items with_start c.keep.ensures.alike) c.in_ok-keep.ensures.kept here;

@@ -5,7 +5,7 @@ use Rattle.explore.proofs.found.Found.len.Goals as goal
 
 pub returns : goal.returns
 returns c =
-    let links : List Link = c.self.inside.links.items in
+    let links : List Link = c.self.inside.links in
     let long = linked_long [] links in
     let same : length links ≡ length (linked [] links) = omega (arith, long) in
-    ap (λ (xs : List Link). length xs) c.deref-links.ensures.value ∙ same ∙ ap (λ (f : Found). length f.paths) c.self.view_is
+    c.len.ensures ∙ same ∙ ap (λ (f : Found). length f.paths) c.self.view_is

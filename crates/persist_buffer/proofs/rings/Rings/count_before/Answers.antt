@@ -11,7 +11,7 @@ returns-then-k-count c =
     c.count-then-k-count.ensures.value ∙ sym (ap (count_by (is_in c.args.a)) (before_all (is_in c.args.b) c.args.k c.args.self.now.stamped all))
 
 pub count_below-requires : goal.count_below-requires
-count_below-requires c = ring_rises _ _ _ c.args.a _ c.self.invariant c.requires.a c.index.ensures
+count_below-requires c = ring_rises _ _ _ c.args.a _ c.self.invariant.0 c.requires.a c.index.ensures
 
 pub returns : goal.returns
-returns c = rw (← c.self.view_is) (counted_before _ _ _ c.args.a c.args.b c.args.k _ _ c.nth.result.now c.self.invariant c.requires.a c.index.ensures (rw (← c.self.view_is) at c.nth.ensures) c.count_below.ensures)
+returns c = rw (← c.self.view_is) (counted_before _ _ _ c.args.a c.args.b c.args.k _ _ c.nth.result.now c.self.invariant.0 c.requires.a c.index.ensures (rw (← c.self.view_is) at c.nth.ensures) c.count_below.ensures)

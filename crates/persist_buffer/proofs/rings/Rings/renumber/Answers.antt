@@ -19,18 +19,18 @@ pub invariant_of-self : goal.invariant_of-self
 invariant_of-self c =
     let left : IsLeast (merged c.self.inside.rings.items) c.loop-least.from c.loop-least.least = subst (λ v. IsLeast v.stamped c.loop-least.from c.loop-least.least) (sym c.self.view_is) c.loop-least.invariant.least in
     let so_far : c.loop-least.from ≤ count_by (λ s. nat_lt s.serial c.loop-least.from) (merged c.self.inside.rings.items) = subst (λ v. c.loop-least.from ≤ count_by (λ s. nat_lt s.serial c.loop-least.from) v.stamped) (sym c.self.view_is) c.loop-least.invariant.numbered in
-    let small = small_from _ _ _ c.loop-least.from c.self.invariant so_far in
-    renumbered _ _ _ c.loop-least.from c.loop-least.least c.self.invariant left c.loop-least-test.false (omega arith)
+    let small = small_from _ _ _ c.loop-least.from c.self.invariant.0 so_far in
+    (renumbered _ _ _ c.loop-least.from c.loop-least.least c.self.invariant.0 left c.loop-least-test.false (omega arith), c.self.invariant.1)
 
 pub returns-clause-next : goal.returns-clause-next
 returns-clause-next c =
     let so_far : c.loop-least.from ≤ count_by (λ s. nat_lt s.serial c.loop-least.from) (merged c.self.inside.rings.items) = subst (λ v. c.loop-least.from ≤ count_by (λ s. nat_lt s.serial c.loop-least.from) v.stamped) (sym c.self.view_is) c.loop-least.invariant.numbered in
-    let small = small_from _ _ _ c.loop-least.from c.self.invariant so_far in
+    let small = small_from _ _ _ c.loop-least.from c.self.invariant.0 so_far in
     omega arith
 
 pub returns-clause-numbers : goal.returns-clause-numbers
 returns-clause-numbers c =
     let left : IsLeast (merged c.self.inside.rings.items) c.loop-least.from c.loop-least.least = subst (λ v. IsLeast v.stamped c.loop-least.from c.loop-least.least) (sym c.self.view_is) c.loop-least.invariant.least in
     let so_far : c.loop-least.from ≤ count_by (λ s. nat_lt s.serial c.loop-least.from) (merged c.self.inside.rings.items) = subst (λ v. c.loop-least.from ≤ count_by (λ s. nat_lt s.serial c.loop-least.from) v.stamped) (sym c.self.view_is) c.loop-least.invariant.numbered in
-    let small = small_from _ _ _ c.loop-least.from c.self.invariant so_far in
-    numbers_all _ _ c.loop-least.from (renumbered _ _ _ c.loop-least.from c.loop-least.least c.self.invariant left c.loop-least-test.false (omega arith)) so_far
+    let small = small_from _ _ _ c.loop-least.from c.self.invariant.0 so_far in
+    numbers_all _ _ c.loop-least.from (renumbered _ _ _ c.loop-least.from c.loop-least.least c.self.invariant.0 left c.loop-least-test.false (omega arith)) so_far
