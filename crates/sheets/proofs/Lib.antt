@@ -1,0 +1,3 @@
+mod RowSteps
+mod Ranges
+pub mod ToldLines
