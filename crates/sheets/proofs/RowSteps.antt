@@ -1,5 +1,5 @@
 -- One more token, and one more line.
-use Rattle.std.proofs.Common.{◌≡◌, ℕ, ◌+◌, ◌++◌, true, false, Option, None, Some, Result, Ok, Err, List, [], ◌∷◌, bytes_eq, codes, decimal, refl}
+use Rattle.std.proofs.Common.{◌≡◌, ℕ, ◌+◌, ◌++◌, true, false, Bool, Option, None, Some, Result, Ok, Err, List, [], ◌∷◌, decimal, refl}
 use Rattle.text_tokens.specs.Cursors.{Token}
 use Rattle.text_tokens.specs.Text.{tokens_of}
 use Rattle.lines_layout.specs.Layouts.{NamedLines}
@@ -8,7 +8,7 @@ use Rattle.sheets.specs.Abbreviations.{Names, in_copy, numbered_copy}
 use Rattle.sheets.specs.Texts.{plain_from, said_from, token_said, with_blank}
 use Rattle.sheets.specs.Words.{Words, counted_from, line_given, line_said, lines_given, lines_said, value_said, values_from, word_after, words_from}
 use Rattle.sheets.specs.Sheets.{Sheet, copies_from, copy_after, copy_from, copy_of, line_after, sheet_from}
-use Rattle.sheets.specs.Reading.{are_of_sheet}
+use Rattle.sheets.specs.Reading.{are_of_sheet, begins_sheet}
 
 -- ---- tokens as they stand
 
@@ -165,13 +165,12 @@ pub no_opening : (lines : List (List ℕ)) → lines ≡ [] → are_of_sheet lin
 unfolding are_of_sheet
 no_opening lines e = rw e refl
 
-pub blank_opening : (lines : List (List ℕ)) (line : List ℕ) (others : List (List ℕ)) → lines ≡ line ∷ others → tokens_of line ≡ [] → are_of_sheet others ≡ are_of_sheet lines
+pub blank_opening : (lines : List (List ℕ)) (line : List ℕ) (others : List (List ℕ)) → lines ≡ line ∷ others → begins_sheet (tokens_of line) ≡ None → are_of_sheet others ≡ are_of_sheet lines
 unfolding are_of_sheet
 blank_opening lines line others e none = rw (e, none) refl
 
-pub opening : (lines : List (List ℕ)) (line : List ℕ) (others : List (List ℕ)) (first : Token) (tokens : List Token) → lines ≡ line ∷ others → tokens_of line ≡ first ∷ tokens
-    → are_of_sheet lines ≡ bytes_eq first (codes "sheet")
+pub opening : (lines : List (List ℕ)) (line : List ℕ) (others : List (List ℕ)) (begins : Bool) → lines ≡ line ∷ others → begins_sheet (tokens_of line) ≡ Some begins → are_of_sheet lines ≡ begins
 unfolding are_of_sheet
-opening lines line others first tokens e some = rw (e, some) refl
+opening lines line others begins e some = rw (e, some) refl
 
 pub ruleset opening_steps = (no_opening, blank_opening, opening)

@@ -15,14 +15,15 @@ use Rattle.sheets.specs.Sheets.{Sheet, read_of}
 
 -- ---- which texts are sheets
 
+-- whether tokens begin with `sheet`; None where there are no tokens
+abbrev pub begins_sheet : List Token → Option Bool
+begins_sheet [] = None
+begins_sheet (first ∷ tokens) = Some (bytes_eq first (codes "sheet"))
+
 -- whether the first line with tokens begins with `sheet`
 unfoldable pub are_of_sheet : List (List ℕ) → Bool
 are_of_sheet [] = false
-are_of_sheet (line ∷ lines) = lines_tell (tokens_of line) lines
-  where
-    lines_tell : List Token → List (List ℕ) → Bool
-    lines_tell [] lines = are_of_sheet lines
-    lines_tell (first ∷ tokens) lines = bytes_eq first (codes "sheet")
+are_of_sheet (line ∷ lines) = unwrap_or (begins_sheet (tokens_of line)) (are_of_sheet lines)
 
 abbrev pub is_sheet : List ℕ → Bool
 is_sheet text = are_of_sheet (lines_of text)

@@ -29,11 +29,17 @@ plain_from text (token ∷ tokens) = plain_from (text ++ with_blank token) token
 abbrev pub plain_row : Token → List Token → List ℕ
 plain_row first tokens = plain_from (with_blank first) tokens ++ codes "\n"
 
--- what a token says in a copy, at the end of a text; and what tokens say
+-- what a token says, at the end of a text
+abbrev pub said_behind : Names → List ℕ → Token → Result (List ℕ) LineFault
+said_behind names text token = do
+  one ← said names token
+  Ok (text ++ one)
+
+-- what a token of a copy says, with a blank behind it; and what tokens say
 abbrev pub token_said : Names → Option ℕ → List ℕ → Token → Result (List ℕ) LineFault
 token_said names copy text token = do
-  one ← said names (in_copy copy token)
-  Ok (text ++ with_blank one)
+  more ← said_behind names text (in_copy copy token)
+  Ok (more ++ codes " ")
 
 unfoldable pub said_from : Names → Option ℕ → List ℕ → List Token → Result (List ℕ) LineFault
 said_from names copy text [] = Ok text

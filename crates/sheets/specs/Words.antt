@@ -1,18 +1,18 @@
 -- The words of `line` and the values of `init`.
-use Rattle.std.specs.Prelude.{ℕ, ◌+◌, not, if◌then◌else◌, Option, Some, None, Result, Ok, Err, List, [], ◌∷◌, ◌++◌, bytes_eq, codes, decimal, drop}
+use Rattle.std.specs.Prelude.{ℕ, ◌+◌, not, if◌then◌else◌, Option, Some, None, Result, Ok, Err, List, [], ◌∷◌, ◌++◌, nat_lt, bytes_eq, codes, decimal, drop}
 use Rattle.std.specs.List.{range_with_len}
 use Rattle.outcomes.specs.Outcomes.{◌>>=◌, required}
 use Rattle.text_tokens.specs.Cursors.{Token}
 use Rattle.text_tokens.specs.Text.{tokens_of}
-use Rattle.lines_layout.specs.Lines.{max_lines, line_words}
+use Rattle.lines_layout.specs.Lines.{line_words, max_words}
 use Rattle.lines_layout.specs.Layouts.{NamedLines, add_line_of, name_of, word_of}
 use Rattle.lines_layout.specs.declared.fault.LayoutFault.{LayoutFault}
 use Rattle.litmus_text.specs.declared.fault.LineFault.{LineFault}
 use Rattle.litmus_text.specs.declared.fault.LineFault.TheVariants.{BadWord}
 use Rattle.sheets.specs.declared.words.Place.{Place}
 use Rattle.sheets.specs.declared.words.Place.TheVariants.{Free, Behind, Open, Closed}
-use Rattle.sheets.specs.Abbreviations.{Names, copies, count_said, in_copy, meant, numbered_copy, said}
-use Rattle.sheets.specs.Texts.{with_blank}
+use Rattle.sheets.specs.Abbreviations.{Names, copies, count_said, in_copy, meant, numbered_copy}
+use Rattle.sheets.specs.Texts.{said_behind, with_blank}
 
 -- ---- the words of a line
 
@@ -95,12 +95,16 @@ lines_given layout (line ∷ lines) = lines_given (line_given layout line) lines
 
 -- ---- the values of words
 
+-- the name of a word that is left, by its number
+abbrev pub name_left : NamedLines → ℕ → Option Token
+name_left layout word = if nat_lt word max_words then name_of layout word else None
+
 -- the values of a word and of those after it, by number: a row each, at the end of a text
 unfoldable pub value_said : Names → List ℕ → ℕ → Token → Result (List ℕ) LineFault
 value_said names text word token = do
-  name ← required BadWord (name_of names.layout word)
-  value ← said names token
-  Ok (text ++ codes "init " ++ with_blank name ++ value ++ codes "\n")
+  name ← required BadWord (name_left names.layout word)
+  more ← said_behind names (text ++ codes "init " ++ with_blank name) token
+  Ok (more ++ codes "\n")
 
 unfoldable pub values_from : Names → List ℕ → ℕ → List Token → Result (List ℕ) LineFault
 values_from names text word [] = Ok text

@@ -8,7 +8,7 @@ ghost use Rattle.litmus_text.specs.Reading.{is_label_line};
 ghost use Rattle.sheets.specs.Abbreviations.{numbered_copy};
 ghost use Rattle.sheets.specs.Sheets.{ends_block, is_end, is_recover, no_block, processors_after, recovers_at, recovers_in};
 
-use crate::copy::in_copy;
+use crate::copy::{in_copy, numbered_copy};
 use litmus_text::LineFault;
 use outcomes::OrNoMemory;
 use std::alloc::Global;
@@ -116,7 +116,7 @@ impl Block {
     pub fn copy(&self, processor: usize) -> Option<usize>
         ensures { result ≡ numbered_copy self.now.count processor }
     {
-        self.count.map(|_| processor)
+        numbered_copy(self.count, processor)
     }
 
     /// Whether `recover P`, of these tokens behind `recover`, is of this processor.

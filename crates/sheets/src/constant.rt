@@ -66,9 +66,14 @@ pub fn begins_constant(token: &[u8]) -> bool
 pub fn is_constant(token: &[u8]) -> bool
     ensures { result ≡ is_constant token.now }
 {
-    begins_constant(token)
-        && token.len() <= CONSTANT_LENGTH
-        && token.iter().all(|byte| is_constant_byte(*byte))
+    begins_constant(token) && token.len() <= CONSTANT_LENGTH && has_constant_bytes(token)
+}
+
+/// Whether each byte may be in a constant.
+fn has_constant_bytes(token: &[u8]) -> bool
+    ensures { result ≡ list_all is_constant_byte token.now }
+{
+    token.iter().all(|byte| is_constant_byte(*byte))
 }
 
 /// Whether a byte may be in a constant.

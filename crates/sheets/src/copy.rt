@@ -1,6 +1,6 @@
 //! Tokens of a copy, in which `$` is the number of the copy.
 ghost use Rattle.std.specs.Prelude.{◌≡◌, ◌++◌, IfOk, OnOk, decimal};
-ghost use Rattle.sheets.specs.Abbreviations.{byte_in_copy, in_copy};
+ghost use Rattle.sheets.specs.Abbreviations.{byte_in_copy, in_copy, numbered_copy};
 
 use std::alloc::{AllocError, Global};
 
@@ -40,5 +40,15 @@ pub fn in_copy(alloc: Global, copy: Option<usize>, token: &[u8]) -> Result<Vec<u
     match copy {
         Some(number) => numbered(alloc, number, token),
         None => token.to_vec(alloc),
+    }
+}
+
+/// The number that `$` is in the copy of this number, if there are copies.
+pub fn numbered_copy(count: Option<usize>, number: usize) -> Option<usize>
+    ensures { result ≡ numbered_copy count number }
+{
+    match count {
+        Some(_) => Some(number),
+        None => None,
     }
 }

@@ -1,10 +1,10 @@
 //! What the abbreviations of a sheet stand for.
 ghost use Rattle.std.specs.Prelude.{◌≡◌, ◌++◌, [], true, false, None, IfOk, Ok, Err, MatchOption, MatchResult};
 ghost use Rattle.outcomes.specs.Calls.{Leaves};
-ghost use Rattle.outcomes.specs.Outcomes.{◌>>=◌};
 ghost use Rattle.outcomes.specs.Faults.{fault_in};
 ghost use Rattle.text_tokens.specs.Cursors.{Reads, unread};
-ghost use Rattle.sheets.specs.Abbreviations.{begins_address, behind_first, constant_at, count_at, count_said, meant, number_said, plain_number, said, value_of};
+ghost use Rattle.sheets.specs.Abbreviations.{begins_address, behind_first, constant_at, count_at, count_said, meant, number_said, plain_number, value_of};
+ghost use Rattle.sheets.specs.Texts.{said_behind};
 
 use crate::constant::{Constants, begins_constant, is_constant};
 use crate::copy::push_decimal;
@@ -84,7 +84,7 @@ impl Names {
     /// Appends what a token says.
     #[tactic(auto, unfolding(crate::specs::Abbreviations::said))]
     pub fn push_said(&self, text: &mut Vec<u8>, token: &[u8]) -> Result<(), OrNoMemory<LineFault>>
-        ensures { Leaves fault_in (said self.now token.now >>= λ one. Ok (text.old.items ++ one)) result text.new.items }
+        ensures { Leaves fault_in (said_behind self.now text.old.items token.now) result text.new.items }
     {
         match self.meant(token)? {
             Some(number) => push_decimal(text, number)?,

@@ -2,8 +2,8 @@
 ghost use Rattle.std.specs.Prelude.{◌≡◌};
 ghost use Rattle.outcomes.specs.Calls.{Answers};
 ghost use Rattle.outcomes.specs.Faults.{fault_in};
-ghost use Rattle.sheets.specs.Reading.{is_sheet, sheet_of, told_of};
-ghost use Rattle.sheets.specs.Sheets.{Sheet, read_of};
+ghost use Rattle.text_tokens.specs.Text.{tokens_of};
+ghost use Rattle.sheets.specs.Reading.{begins_sheet, is_sheet, sheet_of};
 
 use crate::sheet::Sheet;
 use litmus_text::{LinedObject, TextFault, read_lined};
@@ -11,14 +11,24 @@ use outcomes::OrNoMemory;
 use std::alloc::Global;
 use text_tokens::{Lines, Tokens};
 
+/// Whether the tokens of a line begin with `sheet`; none where it has no tokens.
+fn begins_sheet(line: &[u8]) -> Option<bool>
+    ensures { result ≡ begins_sheet (tokens_of line.now) }
+{
+    match Tokens::new(line).next() {
+        Some(first) => Some(first == b"sheet".as_slice()),
+        None => None,
+    }
+}
+
 /// Whether a text is a sheet: its first line with tokens begins with `sheet`.
 #[tactic(auto, using(crate::proofs::RowSteps::opening_steps))]
 pub fn is_sheet(text: &[u8]) -> bool
     ensures { result ≡ is_sheet text.now }
 {
     for line in Lines::new(text) {
-        if let Some(first) = Tokens::new(line).next() {
-            return first == b"sheet".as_slice();
+        if let Some(begins) = begins_sheet(line) {
+            return begins;
         }
     }
     false

@@ -118,7 +118,11 @@ fn push_all_said(
     ensures { Leaves fault_in (said_from names.now copy text.old.items (unread tokens.entry)) result text.new.items }
 {
     for token in tokens {
-        push_said(text, names, copy, token)?;
+        match push_said(text, names, copy, token) {
+            Ok(()) => {}
+            Err(OrNoMemory::Fault(kind)) => return Err(OrNoMemory::Fault(kind)),
+            Err(OrNoMemory::NoMemory) => return Err(OrNoMemory::NoMemory),
+        }
     }
     Ok(())
 }

@@ -1,14 +1,15 @@
 //! The words of `line`, and the values of `init`.
-ghost use Rattle.std.specs.Prelude.{◌≡◌, ◌++◌, [], OnOk, decimal};
+ghost use Rattle.std.specs.Prelude.{◌≡◌, ◌<◌, ◌++◌, [], OnOk, decimal};
 ghost use Rattle.std.specs.Result.{result_map_both};
 ghost use Rattle.outcomes.specs.Calls.{Answers, Leaves};
 ghost use Rattle.outcomes.specs.Faults.{fault_in};
 ghost use Rattle.text_tokens.specs.Cursors.{unread};
 ghost use Rattle.text_tokens.specs.Text.{lines_of};
+ghost use Rattle.lines_layout.specs.Lines.{max_words};
 ghost use Rattle.sheets.specs.Texts.{with_blank};
 ghost use Rattle.sheets.specs.Words.{all_lines_said, counted_names, line_given, line_said, lines_given, name_begins, value_said, values_from, word_after, words_end, words_from};
 
-use crate::copy::{in_copy, push_decimal};
+use crate::copy::{in_copy, numbered_copy, push_decimal};
 use crate::names::Names;
 use crate::said::push_token;
 use lines_layout::{LINE_WORDS, WordId};
@@ -129,7 +130,11 @@ impl Words {
     {
         for token in tokens {
             let token = in_copy(*self.text.allocator(), copy, token)?;
-            self.read_token(names, &token)?;
+            match self.read_token(names, &token) {
+                Ok(()) => {}
+                Err(OrNoMemory::Fault(kind)) => return Err(OrNoMemory::Fault(kind)),
+                Err(OrNoMemory::NoMemory) => return Err(OrNoMemory::NoMemory),
+            }
         }
         Ok(())
     }
@@ -137,7 +142,7 @@ impl Words {
     /// The text, where the tokens may end here.
     #[tactic(auto, unfolding(crate::specs::Words::words_end))]
     fn end(mut self) -> Result<Vec<u8>, OrNoMemory<LineFault>>
-        ensures { Answers fault_in (words_end self.entry.place self.entry) (result_map_both (λ v. v.items) (λ e. e) result) }
+        ensures { Answers fault_in (words_end self.place self) (result_map_both (λ v. v.items) (λ e. e) result) }
     {
         match self.place {
             Place::Free => {}
@@ -157,7 +162,7 @@ fn line_said(
     copy: Option<usize>,
     tokens: Tokens,
 ) -> Result<Vec<u8>, OrNoMemory<LineFault>>
-    ensures { Answers fault_in (line_said names.now (unread tokens.entry) text.entry.items copy) (result_map_both (λ v. v.items) (λ e. e) result) }
+    ensures { Answers fault_in (line_said names.now (unread tokens.entry) text.items copy) (result_map_both (λ v. v.items) (λ e. e) result) }
 {
     let alloc = *text.allocator();
     text.extend_from_slice(b"line ")?;
@@ -182,7 +187,11 @@ pub fn lines_said(
 {
     let mut text = Vec::new(alloc);
     for number in 0..count.unwrap_or(1) {
-        text = line_said(text, names, count.map(|_| number), tokens)?;
+        match line_said(text, names, numbered_copy(count, number), tokens) {
+            Ok(more) => text = more,
+            Err(OrNoMemory::Fault(kind)) => return Err(OrNoMemory::Fault(kind)),
+            Err(OrNoMemory::NoMemory) => return Err(OrNoMemory::NoMemory),
+        }
     }
     Ok(text)
 }
@@ -218,7 +227,8 @@ impl Names {
         word: usize,
         token: &[u8],
     ) -> Result<(), OrNoMemory<LineFault>>
-        ensures { Leaves fault_in (value_said self.now text.old.items word token.now) result text.new.items }
+        ensures said { Leaves fault_in (value_said self.now text.old.items word token.now) result text.new.items }
+        ensures there { OnOk result (word < max_words) }
     {
         let word = WordId::new(word).ok_or(LineFault::BadWord)?;
         let name = self.layout.name(word).ok_or(LineFault::BadWord)?;
@@ -242,7 +252,11 @@ impl Names {
         let mut text = Vec::new(alloc);
         let mut word = first;
         for token in tokens {
-            self.push_value(&mut text, word, token)?;
+            match self.push_value(&mut text, word, token) {
+                Ok(()) => {}
+                Err(OrNoMemory::Fault(kind)) => return Err(OrNoMemory::Fault(kind)),
+                Err(OrNoMemory::NoMemory) => return Err(OrNoMemory::NoMemory),
+            }
             word += 1;
         }
         Ok(text)

@@ -1,7 +1,7 @@
 use Rattle.std.proofs.Common.{◌≡◌}
 use Rattle.text_tokens.specs.Text.{lines_of}
 use Rattle.sheets.specs.Words.{lines_given}
-use Rattle.sheets.proofs.words.Names.add_lines.Given as goal
+use Rattle.sheets.proofs.names.Names.add_lines.Given as goal
 
 abbrev pub invariant-loop-line : goal.invariant-loop-line
 invariant-loop-line l = record {
