@@ -171,7 +171,7 @@ turned part s = record s { block = record s.block { part = part } }
 -- the recovery program begins here, or there is none in this copy
 abbrev pub recovery_begun : ℕ → Sheet → Bool → Sheet
 recovery_begun n s recovers =
-    if recovers then saying n (plain_row (codes "recover") []) (turned parts.Recovery s) else saying n (codes "\n") (turned parts.Skipped s)
+    if recovers then saying n (codes "recover\n") (turned parts.Recovery s) else saying n (codes "\n") (turned parts.Skipped s)
 
 -- a row of the main program where `recover` is: recover, or recover P
 abbrev pub recovers_in : Block → Option ℕ → ℕ → List Token → Result Bool LineFault
@@ -214,7 +214,7 @@ copy_from p n s (line ∷ lines) = copy_from p (n + 1) (copy_after p n s line) l
 unfoldable pub copy_of : List ℕ → Sheet → ℕ → Sheet
 copy_of rows s p =
     if is_some s.fault then s
-    else copy_from p (s.block.line + 1) (saying s.block.line (plain_row (codes "cpu") []) (turned parts.Main s)) (lines_of rows)
+    else copy_from p (s.block.line + 1) (saying s.block.line (codes "cpu\n") (turned parts.Main s)) (lines_of rows)
 
 unfoldable pub copies_from : List ℕ → Sheet → List ℕ → Sheet
 copies_from rows s [] = s

@@ -1,5 +1,6 @@
 //! The processors of one `cpu`.
-ghost use Rattle.std.specs.Prelude.{◌≡◌};
+ghost use Rattle.std.specs.Prelude.{◌≡◌, ◌≤◌};
+ghost use Rattle.isa.specs.Loadables.{max_processors};
 ghost use Rattle.outcomes.specs.Calls.{Answers};
 ghost use Rattle.outcomes.specs.Faults.{fault_in};
 ghost use Rattle.text_tokens.specs.Cursors.{unread};
@@ -107,7 +108,8 @@ impl Block {
 
     /// The number of the processor after these.
     pub fn next_processor(&self) -> usize
-        ensures { result ≡ processors_after self.now }
+        ensures value { result ≡ processors_after self.now }
+        ensures few { result ≤ max_processors }
     {
         self.first + self.count.unwrap_or(1)
     }

@@ -110,7 +110,7 @@ fn cpu_at(
     ensures few { IfOk result (λ c. first + copies c.0 ≤ max_processors) }
 {
     let count = names.next_count(MAX_PROCESSORS, &mut tokens)?;
-    if first + count.unwrap_or(1) > MAX_PROCESSORS {
+    if count.unwrap_or(1) > MAX_PROCESSORS - first {
         return Err(OrNoMemory::Fault(LineFault::TooLong));
     }
     let row = said_row(alloc, names, None, b"cpu", tokens)?;
@@ -203,7 +203,7 @@ impl Sheet {
     /// Another block, behind `cpu`.
     #[tactic(auto, unfolding(crate::specs::Sheets::cpu_after))]
     fn read_cpu(&mut self, row: Row) -> Result<(), AllocError>
-        requires { row.entry.number < 2 ^ 63 }
+        requires { row.number < 2 ^ 63 }
         ensures { ReadsRest cpu_after self.old row.entry result self.new }
     {
         let alloc = self.alloc();
@@ -247,7 +247,7 @@ impl Sheet {
     /// A row of data, or the first block.
     #[tactic(auto, unfolding(crate::specs::Sheets::row_after))]
     fn read_data(&mut self, row: Row) -> Result<(), AllocError>
-        requires { row.entry.number < 2 ^ 63 }
+        requires { row.number < 2 ^ 63 }
         ensures { ReadsRow (row_after Stage.Data) self.old row.entry result self.new }
     {
         if row.first == b"const".as_slice() {
@@ -266,7 +266,7 @@ impl Sheet {
     /// A row outside of blocks.
     #[tactic(auto, unfolding(crate::specs::Sheets::row_after))]
     fn read_row(&mut self, row: Row) -> Result<(), AllocError>
-        requires { row.entry.number < 2 ^ 63 }
+        requires { row.number < 2 ^ 63 }
         ensures { ReadsRow (row_after self.old.stage) self.old row.entry result self.new }
     {
         match self.stage {
@@ -328,8 +328,7 @@ impl Sheet {
     {
         if recovers {
             self.block.part = Part::Recovery;
-            let piece = plain_row(self.alloc(), b"recover", Tokens::new(b""))?;
-            self.said.say(number, &piece)
+            self.said.say(number, b"recover\n")
         } else {
             self.block.part = Part::Skipped;
             self.said.say(number, b"\n")
@@ -417,8 +416,7 @@ impl Sheet {
         }
         self.block.part = Part::Main;
         let line = self.block.line;
-        let piece = plain_row(self.alloc(), b"cpu", Tokens::new(b""))?;
-        self.said.say(line, &piece)?;
+        self.said.say(line, b"cpu\n")?;
         self.read_copies(processor, line, rows)
     }
 
