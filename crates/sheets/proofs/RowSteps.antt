@@ -1,5 +1,5 @@
 -- One more token, and one more line.
-use Rattle.std.proofs.Common.{◌≡◌, ℕ, ◌+◌, ◌++◌, true, false, Bool, Option, None, Some, Result, Ok, Err, List, [], ◌∷◌, decimal, refl}
+use Rattle.std.proofs.Common.{◌≡◌, ℕ, ◌+◌, ◌++◌, false, Bool, Option, None, Some, Ok, Err, List, [], ◌∷◌, decimal, refl}
 use Rattle.text_tokens.specs.Cursors.{Token}
 use Rattle.text_tokens.specs.Text.{tokens_of}
 use Rattle.lines_layout.specs.Layouts.{NamedLines}

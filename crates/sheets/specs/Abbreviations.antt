@@ -1,5 +1,5 @@
 -- What tokens of a sheet say: constants, addresses of words, and the numbers of copies.
-use Rattle.std.specs.Prelude.{ℕ, Bool, false, not, ◌||◌, ◌&&◌, ◌==◌, nat_le, nat_lt, if◌then◌else◌, Option, Some, None, is_some, option_map, unwrap_or, Result, Ok, Err, List, [], ◌∷◌, length, bytes_eq, codes, decimal}
+use Rattle.std.specs.Prelude.{ℕ, Bool, false, not, ◌||◌, ◌&&◌, ◌==◌, nat_le, nat_lt, if◌then◌else◌, Option, Some, None, is_some, option_map, unwrap_or, Result, Ok, List, [], ◌∷◌, length, bytes_eq, codes, decimal}
 use Rattle.std.specs.List.{flat_map, list_all}
 use Rattle.std.specs.Map.{lookup}
 use Rattle.std.specs.Char.{is_ascii_digit, is_ascii_uppercase}

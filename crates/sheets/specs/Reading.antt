@@ -1,5 +1,5 @@
 -- What a sheet says: the value of the litmus text that it says, with the lines of the sheet.
-use Rattle.std.specs.Prelude.{ℕ, Bool, true, false, nat_lt, if◌then◌else◌, Option, Some, None, Result, Ok, Err, List, [], ◌∷◌, ◌++◌, length, unwrap_or, bytes_eq, codes}
+use Rattle.std.specs.Prelude.{ℕ, Bool, false, nat_lt, if◌then◌else◌, Option, Some, None, Result, Ok, Err, List, [], ◌∷◌, ◌++◌, length, unwrap_or, bytes_eq, codes}
 use Rattle.std.specs.Option.{option_map_or}
 use Rattle.text_tokens.specs.Cursors.{Token}
 use Rattle.text_tokens.specs.Text.{lines_of, tokens_of}

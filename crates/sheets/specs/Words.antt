@@ -1,11 +1,11 @@
 -- The words of `line` and the values of `init`.
-use Rattle.std.specs.Prelude.{ℕ, ◌+◌, not, if◌then◌else◌, Option, Some, None, Result, Ok, Err, List, [], ◌∷◌, ◌++◌, nat_lt, bytes_eq, codes, decimal, drop}
+use Rattle.std.specs.Prelude.{ℕ, ◌+◌, if◌then◌else◌, Option, None, Result, Ok, Err, List, [], ◌∷◌, ◌++◌, nat_lt, bytes_eq, codes, decimal, drop}
 use Rattle.std.specs.List.{range_with_len}
 use Rattle.outcomes.specs.Outcomes.{◌>>=◌, required}
 use Rattle.text_tokens.specs.Cursors.{Token}
 use Rattle.text_tokens.specs.Text.{tokens_of}
 use Rattle.lines_layout.specs.Lines.{line_words, max_words}
-use Rattle.lines_layout.specs.Layouts.{NamedLines, add_line_of, name_of, word_of}
+use Rattle.lines_layout.specs.Layouts.{NamedLines, add_line_of, name_of}
 use Rattle.lines_layout.specs.declared.fault.LayoutFault.{LayoutFault}
 use Rattle.litmus_text.specs.declared.fault.LineFault.{LineFault}
 use Rattle.litmus_text.specs.declared.fault.LineFault.TheVariants.{BadWord}

@@ -17,6 +17,3 @@ mod sheet;
 mod words;
 
 pub use reading::{is_sheet, read_sheet};
-
-#[cfg(test)]
-mod trial;

@@ -8,9 +8,9 @@ pub returns-clause-only : goal.returns-clause-only
 returns-clause-only c = λ bytes o fits is. elim (program_is bytes o is) [
   | inl object ↦ inl (c.objects_are_read.ensures.only bytes o fits object)
   | inr text ↦ inr (elim text [
-      | inl plain ↦ inl (c.texts_are_read.ensures.only bytes o plain)
-      | inr sheet ↦ inr (sheet.0, c.texts_are_read.ensures.only (litmus_said bytes) o sheet.1)
-    ])
+    | inl plain ↦ inl (c.texts_are_read.ensures.only bytes o plain)
+    | inr sheet ↦ inr (sheet.0, c.texts_are_read.ensures.only (litmus_said bytes) o sheet.1)
+  ])
 ]
 
 pub returns-clause-sheet : goal.returns-clause-sheet

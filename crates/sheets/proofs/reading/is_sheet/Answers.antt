@@ -1,4 +1,4 @@
-use Rattle.std.proofs.Common.{◌≡◌, ◌∙◌, sym}
+use Rattle.std.proofs.Common.{◌∙◌, sym}
 use Rattle.sheets.proofs.RowSteps.{opening}
 use Rattle.sheets.proofs.reading.is_sheet.Goals as goal
 

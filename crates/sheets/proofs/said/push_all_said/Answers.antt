@@ -1,4 +1,4 @@
-use Rattle.std.proofs.Common.{◌≡◌, ◌∙◌, sym}
+use Rattle.std.proofs.Common.{◌∙◌, sym}
 use Rattle.sheets.proofs.RowSteps.{fault_said}
 use Rattle.sheets.proofs.said.push_all_said.Goals as goal
 

@@ -1,4 +1,4 @@
-use Rattle.std.proofs.Common.{rules, ◌≡◌, ◌∙◌, ◌<◌, sym}
+use Rattle.std.proofs.Common.{rules, ◌∙◌, ◌<◌, sym}
 use Rattle.sheets.specs.Abbreviations.{copies}
 use Rattle.sheets.proofs.Ranges.{next_number}
 use Rattle.sheets.proofs.RowSteps.{fault_line}

@@ -1,4 +1,4 @@
-use Rattle.std.proofs.Common.{rules, ◌≡◌, ◌++◌, ◌∷◌, [], None}
+use Rattle.std.proofs.Common.{rules, ◌≡◌, None}
 use Rattle.sheets.specs.Abbreviations.{value_of}
 use Rattle.sheets.proofs.Constants.{by_bytes, new_by_bytes}
 use Rattle.sheets.proofs.constant.Constants.add.Goals as goal

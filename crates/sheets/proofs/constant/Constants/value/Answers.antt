@@ -1,4 +1,4 @@
-use Rattle.std.proofs.Common.{◌≡◌, ◌∙◌, ap}
+use Rattle.std.proofs.Common.{◌∙◌, ap}
 use Rattle.sheets.specs.Abbreviations.{Constants, value_of}
 use Rattle.sheets.proofs.Constants.{found_by_bytes}
 use Rattle.sheets.proofs.constant.Constants.value.Goals as goal

@@ -1,4 +1,4 @@
-use Rattle.std.proofs.Common.{◌≡◌, ◌∙◌, sym}
+use Rattle.std.proofs.Common.{◌∙◌, sym}
 use Rattle.sheets.proofs.RowSteps.{fault_value}
 use Rattle.sheets.proofs.names.Names.values_said.Goals as goal
 

@@ -1,4 +1,4 @@
-use Rattle.std.proofs.Common.{◌≡◌, ◌+◌, length, []}
+use Rattle.std.proofs.Common.{◌≡◌, []}
 use Rattle.text_tokens.specs.Text.{tokens_of}
 use Rattle.sheets.specs.Words.{values_from}
 use Rattle.sheets.proofs.names.Names.values_said.Given as goal
