@@ -1,5 +1,6 @@
 -- A program that is read with the lines of its instructions is the program, and a fault is the same.
-use Rattle.std.proofs.Common.{◌≡◌, ℕ, false, true, None, Some, Result, Ok, Err, List, [], ◌∷◌, ap, refl, sym}
+use Rattle.std.proofs.Common.{◌≡◌, ℕ, false, true, None, Some, Result, Ok, Err, List, [], ◌∷◌, ap, inl, inr, refl, sym}
+use Rattle.std.proofs.lemmas.Bool.{cases_Bool}
 use Rattle.std.specs.Prelude.{Contains}
 use Rattle.outcomes.specs.Outcomes.{◌>>=◌}
 use Rattle.isa.specs.Objects.{Object}
@@ -10,12 +11,15 @@ use Rattle.litmus_text.specs.LinedObjects.{lined_of}
 use Rattle.litmus_text.specs.SourceLines.{lines_found}
 use Rattle.litmus_text.specs.TextLines.{TextLines}
 use Rattle.litmus_text.specs.Texts.{litmus_of}
+use Rattle.sheets.specs.Reading.{is_sheet, sheet_of}
+use Rattle.sheets.proofs.ToldLines.{lines_are_said}
 use Rattle.commands.specs.declared.fault.Fault.{Fault}
 use Rattle.commands.specs.declared.fault.Fault.TheVariants as faults
 use Rattle.commands.specs.declared.fault.Refused.{Refused}
+use Rattle.commands.specs.declared.fault.Refused.TheVariants as refusals
 use Rattle.commands.specs.declared.fault.Stage.{Stage}
 use Rattle.commands.specs.Faults.{stage_of}
-use Rattle.commands.specs.Programs.{is_object_file, lined_work, lines_in_file, program_of, program_stage, program_work}
+use Rattle.commands.specs.Programs.{is_object_file, lined_text_of, lined_work, lines_in_file, program_of, program_stage, program_work}
 use Rattle.commands.specs.Works.{Makes, and_then, done, reached_after, told_after}
 
 -- an object with these lines
@@ -46,10 +50,35 @@ made_with : (bytes : List ℕ) (lined : LinedObject) → lined.lines ≡ lines_i
 unfolding Makes and_then done
 made_with bytes lined lines said = rw said (ap (λ (found : TextLines). made_as (lined_with found lined.object)) (sym lines))
 
-pub text_is_lined : (bytes : List ℕ) (lined : LinedObject) → is_object_file bytes ≡ false → lined_of bytes ≡ Ok lined → Makes (lined_work bytes) (Ok lined)
-text_is_lined bytes lined other read =
+-- a litmus text, and a sheet
+litmus_is_lined : (bytes : List ℕ) (lined : LinedObject) → is_object_file bytes ≡ false → is_sheet bytes ≡ false → lined_of bytes ≡ Ok lined → Makes (lined_work bytes) (Ok lined)
+litmus_is_lined bytes lined other plain read =
     let said = said_with (litmus_of bytes) (Some (lines_found bytes)) lined read in
-    made_with bytes lined (rw other said.lines_are) (rw (other, said.object) refl)
+    made_with bytes lined (rw (other, plain) said.lines_are) (rw (other, plain, said.object) refl)
+
+sheet_is_lined : (bytes : List ℕ) (lined : LinedObject) → is_object_file bytes ≡ false → is_sheet bytes ≡ true → sheet_of bytes ≡ Ok lined → Makes (lined_work bytes) (Ok lined)
+sheet_is_lined bytes lined other is read =
+    made_with bytes lined (rw (other, is) (lines_are_said bytes lined read)) (rw (other, is, read) refl)
+
+pub text_is_lined : (bytes : List ℕ) (lined : LinedObject) → is_object_file bytes ≡ false → lined_text_of bytes ≡ Ok lined → Makes (lined_work bytes) (Ok lined)
+text_is_lined bytes lined other read = elim (cases_Bool (is_sheet bytes)) [
+  | inl is ↦ sheet_is_lined bytes lined other is (rw is at read)
+  | inr plain ↦ litmus_is_lined bytes lined other plain (rw plain at read)
+]
+
+-- the fault of a text is that of the program
+lined_fault : (said : Result Object TextFault) (lines : TextLines) (fault : TextFault) → (said >>= λ object. Ok (lined_with lines object)) ≡ Err fault → said ≡ Err fault
+lined_fault (Ok object) lines fault e = absurd cc
+lined_fault (Err found) lines fault e = cc
+
+pub text_is_refused : (bytes : List ℕ) (fault : TextFault) → is_object_file bytes ≡ false → lined_text_of bytes ≡ Err fault → program_of bytes ≡ Err (refusals.Text fault)
+text_is_refused bytes fault other read = elim (cases_Bool (is_sheet bytes)) [
+  | inl is ↦ let sheet : sheet_of bytes ≡ Err fault = rw is at read in rw (other, is, sheet) refl
+  | inr plain ↦
+      let text : lined_of bytes ≡ Err fault = rw plain at read in
+      let said = lined_fault (litmus_of bytes) (Some (lines_found bytes)) fault text in
+      rw (other, plain, said) refl
+]
 
 pub object_is_lined : (bytes : List ℕ) (object : Object) (lines : TextLines) → is_object_file bytes ≡ true → object_of bytes ≡ Ok object → lines ≡ None
     → Makes (lined_work bytes) (Ok (lined_with lines object))

@@ -14,7 +14,9 @@ use Rattle.litmus_text.specs.Grammar.{IsText}
 use Rattle.litmus_text.specs.Rows.{has_tokens, rows_of}
 use Rattle.litmus_text.specs.Texts.{litmus_of}
 use Rattle.commands.specs.declared.fault.Refused.TheVariants as refusals
-use Rattle.commands.specs.Programs.{is_object_file, program_of}
+use Rattle.commands.specs.Programs.{is_object_file, program_of, text_program_of}
+use Rattle.sheets.specs.Reading.{are_of_sheet, is_sheet, litmus_said}
+use Rattle.sheets.proofs.ToldLines.{object_is_said}
 
 -- the first of these begins with P
 record BeginsWithP (texts : List (List ℕ)) : Type 0 where
@@ -59,11 +61,51 @@ no_text (b ∷ rest) o text begins = elim (cases_Bool (nat_eq 80 b)) [
   | inr other ↦ let none : starts_with nat_eq (b ∷ rest) (codes "PX86OBJ") ≡ false = rw other refl in absurd cc
 ]
 
+-- ---- sheets
+
+-- what begins with `litmus` is none
+litmus_is_no_sheet : (lines : List (List ℕ)) (tokens : List (List ℕ)) (rows : List (List (List ℕ))) → rows_of lines ≡ (codes "litmus" ∷ tokens) ∷ rows → are_of_sheet lines ≡ false
+unfolding are_of_sheet
+litmus_is_no_sheet [] tokens rows is = refl
+litmus_is_no_sheet (line ∷ lines) tokens rows is = first_tells (tokens_of line) refl
+  where
+    first_tells : (found : List (List ℕ)) → tokens_of line ≡ found → are_of_sheet (line ∷ lines) ≡ false
+    first_tells [] none = rw none (litmus_is_no_sheet lines tokens rows (rw none at is))
+    first_tells (first ∷ others) some =
+        let here : ((first ∷ others) ∷ rows_of lines) ≡ (codes "litmus" ∷ tokens) ∷ rows = rw some at is in
+        let same : first ≡ codes "litmus" = ap (λ (found : List (List (List ℕ))). get_or (get_or found 0 []) 0 []) here in
+        rw (some, same) refl
+
+text_is_no_sheet : (bytes : List ℕ) (o : Object) → IsText (lines_of bytes) o → is_sheet bytes ≡ false
+text_is_no_sheet bytes o text = litmus_is_no_sheet (lines_of bytes) (codes "1" ∷ []) (text.data_part ++ text.processor_part) text.rows
+
+-- nor is what begins with P
+object_is_no_sheet : (bytes : List ℕ) → is_object_file bytes ≡ true → is_sheet bytes ≡ false
+unfolding are_of_sheet
+object_is_no_sheet [] begins = absurd cc
+object_is_no_sheet (b ∷ rest) begins = elim (cases_Bool (nat_eq 80 b)) [
+  | inl p ↦
+      let is : b ≡ 80 = search arith in
+      let line = line_begins rest (lines_of rest) refl in
+      let token = token_begins line.first (tokens_by (codes ",[]:") (codes "#") line.first) refl in
+      rw (is, line.same, token.same) refl
+  | inr other ↦ let none : starts_with nat_eq (b ∷ rest) (codes "PX86OBJ") ≡ false = rw other refl in absurd cc
+]
+
+-- ---- what is read
+
 -- a text is read as a text
 pub text_is_program : (bytes : List ℕ) (o : Object) → IsText (lines_of bytes) o → litmus_of bytes ≡ Ok o → program_of bytes ≡ Ok o
 text_is_program bytes o text read = elim (cases_Bool (is_object_file bytes)) [
   | inl object ↦ absurd (no_text bytes o text object)
-  | inr other ↦ rw (other, read) refl
+  | inr other ↦ let plain = text_is_no_sheet bytes o text in rw (other, plain, read) refl
+]
+
+-- a sheet is read as a sheet
+pub sheet_is_program : (bytes : List ℕ) (o : Object) → is_sheet bytes ≡ true → litmus_of (litmus_said bytes) ≡ Ok o → program_of bytes ≡ Ok o
+sheet_is_program bytes o is read = elim (cases_Bool (is_object_file bytes)) [
+  | inl object ↦ let none = object_is_no_sheet bytes object in absurd (let both : true ≡ false = sym is ∙ none in cc)
+  | inr other ↦ rw (other, is, read) refl
 ]
 
 -- an object is read as an object
@@ -72,8 +114,15 @@ object_is_program One o read = rw read refl
 object_is_program Two o read = rw read refl
 
 -- and no other file is a program
-pub program_is : (bytes : List ℕ) (o : Object) → program_of bytes ≡ Ok o → (litmus_of bytes ≡ Ok o) ⊎ (object_of bytes ≡ Ok o)
+text_program_is : (bytes : List ℕ) (o : Object) → text_program_of bytes ≡ Ok o → (litmus_of bytes ≡ Ok o) ⊎ ((is_sheet bytes ≡ true) × (litmus_of (litmus_said bytes) ≡ Ok o))
+text_program_is bytes o is = elim (cases_Bool (is_sheet bytes)) [
+  | inl sheet ↦ inr (sheet, object_is_said bytes o (rw sheet at is))
+  | inr plain ↦ inl (rw plain at is)
+]
+
+pub program_is : (bytes : List ℕ) (o : Object) → program_of bytes ≡ Ok o
+    → (object_of bytes ≡ Ok o) ⊎ ((litmus_of bytes ≡ Ok o) ⊎ ((is_sheet bytes ≡ true) × (litmus_of (litmus_said bytes) ≡ Ok o)))
 program_is bytes o is = elim (cases_Bool (is_object_file bytes)) [
-  | inl object ↦ inr (refused_as_ok (λ fault. refusals.Object fault) (object_of bytes) o (rw object at is))
-  | inr other ↦ inl (refused_as_ok (λ fault. refusals.Text fault) (litmus_of bytes) o (rw other at is))
+  | inl object ↦ inl (refused_as_ok (λ fault. refusals.Object fault) (object_of bytes) o (rw object at is))
+  | inr other ↦ inr (text_program_is bytes o (refused_as_ok (λ fault. refusals.Text fault) (text_program_of bytes) o (rw other at is)))
 ]

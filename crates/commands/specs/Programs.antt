@@ -1,15 +1,20 @@
 -- What a program file, a condition and a list of steps say, and the state to which the steps lead.
-use Rattle.std.specs.Prelude.{ℕ, Bool, if◌then◌else◌, Option, Some, None, Result, Ok, Err, List, nat_eq, codes}
+use Rattle.std.specs.Prelude.{◌≡◌, ℕ, Bool, true, if◌then◌else◌, Option, Some, None, Result, Ok, Err, List, nat_eq, codes}
 use Rattle.std.specs.List.{starts_with}
 use Rattle.outcomes.specs.Outcomes.{refused_as}
+use Rattle.text_tokens.specs.Text.{lines_of}
 use Rattle.lines_layout.specs.Layouts.{NamedLines}
 use Rattle.conditions.specs.Formulas.{Formula}
 use Rattle.conditions.specs.Texts.{condition_of}
 use Rattle.loader.specs.Reading.{object_of}
+use Rattle.litmus_text.specs.declared.fault.TextFault.{TextFault}
 use Rattle.litmus_text.specs.declared.text_lines.LinedObject.{LinedObject}
+use Rattle.litmus_text.specs.Grammar.{IsText}
+use Rattle.litmus_text.specs.LinedObjects.{lined_of}
 use Rattle.litmus_text.specs.SourceLines.{lines_found}
 use Rattle.litmus_text.specs.TextLines.{TextLines}
 use Rattle.litmus_text.specs.Texts.{litmus_of}
+use Rattle.sheets.specs.Reading.{is_sheet, lines_of_sheet, litmus_said, object_of_sheet, sheet_of}
 use Rattle.isa.specs.Objects as programs
 use Rattle.machine.specs.declared.refusal.Refusal.{Refusal}
 use Rattle.machine.specs.declared.step.Step.{Step}
@@ -30,18 +35,30 @@ is_object_file bytes = starts_with nat_eq bytes (codes "PX86OBJ")
 abbrev pub program_stage : List ℕ → Stage
 program_stage bytes = if is_object_file bytes then stages.Object else stages.Text
 
--- the program that a file says, as an object file or as a litmus text
+-- the program that a text says, as a sheet or as a litmus text
+abbrev pub text_program_of : List ℕ → Result programs.Object TextFault
+text_program_of bytes = if is_sheet bytes then object_of_sheet bytes else litmus_of bytes
+
+-- the program that a file says, as an object file or as a text
 abbrev pub program_of : List ℕ → Result programs.Object Refused
 program_of bytes =
     if is_object_file bytes then refused_as (λ fault. refusals.Object fault) (object_of bytes)
-    else refused_as (λ fault. refusals.Text fault) (litmus_of bytes)
+    else refused_as (λ fault. refusals.Text fault) (text_program_of bytes)
 
 abbrev pub program_work : List ℕ → Work programs.Object
 program_work bytes = work (program_stage bytes) (program_of bytes)
 
--- the lines of the instructions of a program file, where it is a litmus text
+-- the lines of the instructions of a text; those of a sheet are its own
+abbrev pub lines_in_text : List ℕ → TextLines
+lines_in_text bytes = if is_sheet bytes then lines_of_sheet bytes else Some (lines_found bytes)
+
+-- the lines of the instructions of a program file, where it is a text
 abbrev pub lines_in_file : List ℕ → TextLines
-lines_in_file bytes = if is_object_file bytes then None else Some (lines_found bytes)
+lines_in_file bytes = if is_object_file bytes then None else lines_in_text bytes
+
+-- the program that a text says with these lines, or its fault
+abbrev pub lined_text_of : List ℕ → Result LinedObject TextFault
+lined_text_of bytes = if is_sheet bytes then sheet_of bytes else lined_of bytes
 
 -- the program that a file says, with these lines
 abbrev pub lined_work : List ℕ → Work LinedObject
@@ -76,3 +93,7 @@ state_after end = unless_refused end.refusal end.accepted end.state
 
 abbrev pub state_work : End → Work State
 state_work end = work stages.Machine (state_after end)
+
+-- a sheet whose lines say the lines of a text of this value
+abbrev pub IsSheetOf : programs.Object → List ℕ → Type 0
+IsSheetOf object bytes = (is_sheet bytes ≡ true) × IsText (lines_of (litmus_said bytes)) object

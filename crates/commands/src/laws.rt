@@ -5,18 +5,20 @@ ghost use Rattle.litmus_text.specs.Grammar.{IsText};
 ghost use Rattle.loader.specs.Spelling.{IsSpelled};
 ghost use Rattle.text_tokens.specs.Text.{lines_of};
 ghost use Rattle.commands.specs.AskedSites.{site_named};
-ghost use Rattle.commands.specs.Programs.{program_of};
+ghost use Rattle.commands.specs.Programs.{IsSheetOf, program_of};
 ghost use Rattle.commands.specs.StateTexts.{site_text};
 
 use litmus_text::laws::texts_are_read;
 use loader::objects_are_read;
 
-/// A file is a program exactly where its lines are those of a text of the grammar, or its bytes are the spelling of an
-/// object in one of the versions of the format. So a text is never read as an object, nor an object as a text.
+/// A file is a program exactly where its lines are those of a text of the grammar; or it is a sheet, and the lines that it
+/// says are those of such a text; or its bytes are the spelling of an object in one of the versions of the format. So a text
+/// is never read as an object or a sheet, nor any of them as another.
 pub fn programs_are_texts_or_objects()
     ensures only { (bytes : List ℕ) (o : Object) → ((i : ℕ) → slice_index bytes i < 256)
-        → program_of bytes ≡ Ok o → IsText (lines_of bytes) o ⊎ IsSpelled o bytes }
+        → program_of bytes ≡ Ok o → IsSpelled o bytes ⊎ (IsText (lines_of bytes) o ⊎ IsSheetOf o bytes) }
     ensures text { (bytes : List ℕ) (o : Object) → IsText (lines_of bytes) o → program_of bytes ≡ Ok o }
+    ensures sheet { (bytes : List ℕ) (o : Object) → IsSheetOf o bytes → program_of bytes ≡ Ok o }
     ensures object { (bytes : List ℕ) (o : Object) → IsSpelled o bytes → program_of bytes ≡ Ok o }
 {
     texts_are_read();

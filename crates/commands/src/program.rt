@@ -1,9 +1,11 @@
 //! What the bytes of a program, a condition and a list of steps say.
 ghost use Rattle.std.specs.Prelude.{◌≡◌, length, map, IfOk, option_copied};
 ghost use Rattle.std.specs.Result.{result_map_both};
+ghost use Rattle.outcomes.specs.Calls.{Answers};
+ghost use Rattle.outcomes.specs.Faults.{fault_in};
 ghost use Rattle.machine.specs.Objects.{opening};
 ghost use Rattle.machine.specs.Steps.{run_of};
-ghost use Rattle.commands.specs.Programs.{asked_condition, condition_work, lined_work, list_work, program_work, state_work};
+ghost use Rattle.commands.specs.Programs.{asked_condition, condition_work, lined_text_of, lined_work, list_work, program_work, state_work};
 ghost use Rattle.commands.specs.Works.{Makes, work};
 ghost use Rattle.commands.specs.declared.fault.Stage.TheVariants as stages;
 
@@ -11,20 +13,33 @@ use crate::fault::{Fault, Refused, Stage};
 use images::{Cond, read_cond};
 use isa::Object;
 use lines_layout::Layout;
-use litmus_text::{LinedObject, TextLines};
+use litmus_text::{LinedObject, TextFault, TextLines};
 use loader::read_object;
 use machine::{Machine, Step};
+use outcomes::OrNoMemory;
 use schedule::{StepsFault, read_steps};
+use sheets::{is_sheet, read_sheet};
 use std::alloc::Global;
 
 /// What an object file begins with, of whatever version.
 const OBJECT_FILE: &[u8] = b"PX86OBJ";
 
+/// What a text says, as a sheet or as a litmus text, and the lines of its instructions.
+fn read_text(alloc: Global, bytes: &[u8]) -> Result<LinedObject, OrNoMemory<TextFault>>
+    ensures { Answers fault_in (lined_text_of bytes.now) result }
+{
+    if is_sheet(bytes) {
+        read_sheet(alloc, bytes)
+    } else {
+        litmus_text::read_lined(alloc, bytes)
+    }
+}
+
 /// What a program file says, and the lines of its instructions, where it is a text.
 ///
 /// # Errors
 ///
-/// A fault of the program, as an object file or as a litmus text; out of memory.
+/// A fault of the program, as an object file or as a text; out of memory.
 #[tactic(auto, unfolding(crate::specs::Works::Makes), using(crate::proofs::WorksInTurn::turns))]
 pub fn read_lined(alloc: Global, bytes: &[u8]) -> Result<LinedObject, Fault>
     ensures { Makes (lined_work bytes.now) result }
@@ -38,7 +53,7 @@ pub fn read_lined(alloc: Global, bytes: &[u8]) -> Result<LinedObject, Fault>
             Err(error) => Err(Stage::Object.fault(error.map(|fault| Refused::Object(fault)))),
         }
     } else {
-        match litmus_text::read_lined(alloc, bytes) {
+        match read_text(alloc, bytes) {
             Ok(lined) => Ok(lined),
             Err(error) => Err(Stage::Text.fault(error.map(|fault| Refused::Text(fault)))),
         }

@@ -6,11 +6,13 @@ use crate::program_faults::push_text_fault;
 use crate::refused::push_refusal;
 use crate::script_faults::{push_double_id, push_script_line_fault, push_stop_fault};
 use crate::sentences::{refused_sentence, sentence};
+use crate::sheet_faults::push_sheet_fault;
 use crate::step_faults::push_step_fault;
 use commands::{Fault, Refused, ScriptFault, Task, read_program};
 use images::CondFault;
 use lines_layout::Layout;
 use litmus_text::TextFault;
+use sheets::is_sheet;
 use std::alloc::{AllocError, Global};
 
 /// The lines after the line of a fault: the place, and the sentence.
@@ -71,6 +73,9 @@ fn push_explanation(text: &mut String, evidence: &Evidence<'_>, fault: Fault) ->
         return push_sentence(text, sentence(fault), "");
     };
     match refused {
+        Refused::Text(TextFault::At(kind, number)) if is_sheet(evidence.program) => {
+            push_sheet_fault(text, evidence.program, kind, number)
+        }
         Refused::Text(TextFault::At(kind, number)) => {
             push_text_fault(text, evidence.program, kind, number)
         }

@@ -18,6 +18,7 @@ mod reasons;
 mod refused;
 mod script_faults;
 mod sentences;
+mod sheet_faults;
 mod slips;
 mod spots;
 mod step_faults;

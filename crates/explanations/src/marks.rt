@@ -37,6 +37,14 @@ pub(crate) fn push_shown(text: &mut String, bytes: &[u8]) -> Pushed {
     Ok(())
 }
 
+/// Appends a line without marks, or its beginning, where it is long.
+pub(crate) fn push_line(text: &mut String, line: &[u8]) -> Pushed {
+    let end = SHOWN.min(line.len());
+    text.push_str(" | ")?;
+    push_shown(text, &line[..end])?;
+    text.push_str("\n")
+}
+
 /// Appends a character so many times.
 fn push_repeated(text: &mut String, character: char, count: usize) -> Pushed {
     for _ in 0..count {

@@ -46,6 +46,8 @@ pub(crate) fn refused_sentence(refused: Refused) -> &'static str {
             "X8 L3: another word has this name: each word needs a name of its own.",
         Refused::Text(TextFault::At(LineFault::Layout(LayoutFault::BadName), _)) =>
             "X8 L4: a name is a lower case letter and at most 15 of `a-z`, `0-9` and `_`, and no register's name.",
+        Refused::Text(TextFault::At(LineFault::BadName, _)) =>
+            "X10: a constant is an upper case letter and at most 15 of `A-Z`, `0-9` and `_`, and is given once.",
         Refused::Object(ObjectFault::BadMagic) =>
             "O1: the eighth byte of an object file is its version, `1` or `2`.",
         Refused::Object(ObjectFault::Short) =>

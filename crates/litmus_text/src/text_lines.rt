@@ -1,8 +1,9 @@
 //! On which line of its text an instruction stands.
-ghost use Rattle.std.specs.Prelude.{◌≡◌, None, Some};
-ghost use Rattle.litmus_text.specs.TextLines.{line_at, lines_in};
+ghost use Rattle.std.specs.Prelude.{◌≡◌, None, Some, IfOk, map};
+ghost use Rattle.litmus_text.specs.TextLines.{line_at, line_numbered, lines_in, programs_numbered, renumbered};
 
 use isa::Object;
+use std::alloc::{AllocError, Global};
 use std::marker::Model;
 
 /// The lines on which the instructions of a processor's two programs stand, in order. Lines are counted from 1.
@@ -57,6 +58,46 @@ fn lines_in(lines: &ProgramLines, recovery: bool) -> &[usize]
     }
 }
 
+/// The line that stands for this one of a text that was made of another: `numbers` has that of each line, counted from 1.
+/// A line that is not among them stands for itself.
+pub fn line_numbered(numbers: &[usize], line: usize) -> usize
+    ensures { result ≡ line_numbered numbers.now line }
+{
+    match numbers.get(line.saturating_sub(1)) {
+        Some(number) => *number,
+        None => line,
+    }
+}
+
+/// The lines that stand for these.
+fn numbered(alloc: Global, numbers: &[usize], lines: &[usize]) -> Result<Vec<usize>, AllocError>
+    ensures { IfOk result (λ v. v.items ≡ map (line_numbered numbers.now) lines.now) }
+{
+    let mut found = Vec::with_capacity(alloc, lines.len())?;
+    for line in lines {
+        found.push(line_numbered(numbers, *line))?;
+    }
+    Ok(found)
+}
+
+/// The same of each line of these processors.
+fn all_numbered(
+    alloc: Global,
+    numbers: &[usize],
+    processors: &[ProgramLines],
+) -> Result<Vec<ProgramLines>, AllocError>
+    ensures { IfOk result (λ v. v.items ≡ map (programs_numbered numbers.now) processors.now) }
+{
+    let mut found = Vec::with_capacity(alloc, processors.len())?;
+    for lines in processors {
+        found.push(ProgramLines {
+            main: numbered(alloc, numbers, &lines.main)?,
+            recovery: numbered(alloc, numbers, &lines.recovery)?,
+        })?;
+    }
+    Ok(found)
+}
+
 impl TextLines {
     /// Where there is no text. It takes no memory.
     pub fn none() -> TextLines
@@ -71,6 +112,16 @@ impl TextLines {
     {
         TextLines {
             processors: Some(processors),
+        }
+    }
+
+    /// The same lines, of a text that was made of another: for each the line that stands for it ([`line_numbered`]).
+    pub fn renumbered(&self, alloc: Global, numbers: &[usize]) -> Result<TextLines, AllocError>
+        ensures { IfOk result (λ lines. lines ≡ renumbered numbers.now self.now) }
+    {
+        match &self.processors {
+            Some(processors) => Ok(TextLines::found(all_numbered(alloc, numbers, processors)?)),
+            None => Ok(TextLines::none()),
         }
     }
 

@@ -8,7 +8,7 @@ returns-in-Ok c =
     let object : is_object_file c.args.bytes.now ≡ true = search rules in
     object_is_lined c.args.bytes.now c.in-Ok.object c.none.result object c.in-Ok.ensures.told c.none.ensures
 
-pub returns-in-Ok-read_lined : goal.returns-in-Ok-read_lined
-returns-in-Ok-read_lined c =
+pub returns-in-Ok-read_text : goal.returns-in-Ok-read_text
+returns-in-Ok-read_text c =
     let other : is_object_file c.args.bytes.now ≡ false = search rules in
-    text_is_lined c.args.bytes.now c.in-Ok-read_lined.lined other c.in-Ok-read_lined.ensures
+    text_is_lined c.args.bytes.now c.in-Ok-read_text.lined other c.in-Ok-read_text.ensures

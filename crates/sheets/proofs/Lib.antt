@@ -1,0 +1,4 @@
+mod RowSteps
+mod Ranges
+mod Constants
+pub mod ToldLines

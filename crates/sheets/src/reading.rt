@@ -1,0 +1,56 @@
+//! Reading a sheet.
+ghost use Rattle.std.specs.Prelude.{◌≡◌};
+ghost use Rattle.outcomes.specs.Calls.{Answers};
+ghost use Rattle.outcomes.specs.Faults.{fault_in};
+ghost use Rattle.text_tokens.specs.Text.{tokens_of};
+ghost use Rattle.sheets.specs.Reading.{begins_sheet, is_sheet, sheet_of};
+
+use crate::sheet::Sheet;
+use litmus_text::{LinedObject, TextFault, read_lined};
+use outcomes::OrNoMemory;
+use std::alloc::Global;
+use text_tokens::{Lines, Tokens};
+
+/// Whether the tokens of a line begin with `sheet`; none where it has no tokens.
+fn begins_sheet(line: &[u8]) -> Option<bool>
+    ensures { result ≡ begins_sheet (tokens_of line.now) }
+{
+    match Tokens::new(line).next() {
+        Some(first) => Some(first == b"sheet".as_slice()),
+        None => None,
+    }
+}
+
+/// Whether a text is a sheet: its first line with tokens begins with `sheet`.
+#[tactic(auto, using(crate::proofs::RowSteps::opening_steps))]
+pub fn is_sheet(text: &[u8]) -> bool
+    ensures { result ≡ is_sheet text.now }
+{
+    for line in Lines::new(text) {
+        if let Some(begins) = begins_sheet(line) {
+            return begins;
+        }
+    }
+    false
+}
+
+/// The object that a sheet says, and the lines on which its instructions stand.
+///
+/// # Errors
+///
+/// The fault of the lowest line that has one, where the lines of a block are read for one of its processors after another;
+/// or that the text ends too soon; or else the first jump without its label; or that memory ran out.
+pub fn read_sheet(alloc: Global, text: &[u8]) -> Result<LinedObject, OrNoMemory<TextFault>>
+    ensures { Answers fault_in (sheet_of text.now) result }
+{
+    let mut sheet = Sheet::read(alloc, text)?;
+    sheet.finish()?;
+    match read_lined(alloc, sheet.text()) {
+        Ok(lined) => Ok(LinedObject {
+            lines: lined.lines.renumbered(alloc, sheet.lines())?,
+            object: lined.object,
+        }),
+        Err(OrNoMemory::Fault(fault)) => Err(OrNoMemory::Fault(sheet.fault_told(fault))),
+        Err(OrNoMemory::NoMemory) => Err(OrNoMemory::NoMemory),
+    }
+}
