@@ -113,6 +113,11 @@ def commands_of(px86: Px86, option: str = "") -> list[str]:
     return [name for name in names if not option or option in px86(name, "--help").out]
 
 
+def with_needs(command: str) -> str:
+    """A command with what it needs beside FILE."""
+    return {"replay": "replay --number 1"}.get(command, f"{command} --all a" if command in ("hunt", "fences", "mend", "check") else command)
+
+
 @functools.cache
 def library(name: str) -> str:
     """Builds the library tests/NAME.c, which stands between a program and the C library, and gives its path."""
