@@ -9,8 +9,6 @@ from model.rules import FIRST_ADDRESS
 from model.texts import Program
 
 UPPER, MOST_COPIES, MOST_NUMBERED = "ABCDEFGHIJKLMNOPQRSTUVWXYZ", 64, 8
-# What a later kind of text begins with.
-NOT_YET = "let", "every", "some"
 
 
 def is_constant(token: str) -> bool:
@@ -61,8 +59,9 @@ class SheetReader(LitmusReader):
         else:
             line = LineReader(tokens[1:], self.names, number)
             reads = {"const": self.read_constant, "line": self.read_words, "init": self.read_values} if not self.all else {}
-            reads |= {"cpu": self.read_cpu} | dict.fromkeys(NOT_YET, LineReader.bad_word)
-            reads.get(tokens[0], lambda line: self.says(number, tokens[0], *self.plain(line)))(line)
+            reads["cpu"] = self.read_cpu
+            # Any other line has no abbreviation, and is refused.
+            reads.get(tokens[0], lambda line: self.says(number, tokens[0], *line.tokens))(line)
 
     # --- tokens
 
@@ -129,12 +128,10 @@ class SheetReader(LitmusReader):
         return names
 
     def read_values(self, line: LineReader) -> None:
-        if len(line.tokens) < 3:
-            self.says(line.line, "init", *self.plain(line))
+        if len(line.tokens) < 2 or line.tokens[0] not in self.names:
+            self.says(line.line, "init", *line.tokens)
             return
-        name = self.next_plain(line)
-        if name not in self.names:
-            self.says(line.line, "init", name)
+        name = line.next()
         word, words = self.names[name], {word: name for name, word in self.names.items()}
         values = []
         while line.tokens:
@@ -172,16 +169,14 @@ class SheetReader(LitmusReader):
         if cpu.passes_over and (first != "end" or is_label):
             return
         line = LineReader(rest, self.names, number)
-        if first in NOT_YET and not is_label:
-            line.bad_word()
         if first == "recover" and rest and not is_label and len(self.blocks) == 1:
             self.read_recover(cpu, p, line)
         else:
             self.says(number, first, *self.plain(line))
 
     def read_recover(self, cpu: Cpu, p: int, line: LineReader) -> None:
-        """`recover P`: the recovery program is that of one processor alone."""
-        one = small_number_of(self.next_plain(line))
+        """`recover P`: the recovery program is that of one processor alone. Its number is spelled as in steps."""
+        one = small_number_of(line.next())
         if one is None:
             line.bad_word()
         if not cpu.first <= one < cpu.first + cpu.count:
