@@ -2,7 +2,8 @@
 `mend`.
 
 Written from docs/MODEL.md and docs/FORMATS.md alone, in another language than the program, and slow: its reports say
-what those of the program must be. It reads litmus texts without faults (no objects), and the steps on standard input.
+what those of the program must be. It reads litmus texts and sheets without faults (no objects, and `mend` no sheets), and the steps
+on standard input.
 
   tools/schedules-model run FILE
   tools/schedules-model trace FILE
@@ -21,6 +22,7 @@ what those of the program must be. It reads litmus texts without faults (no obje
   tools/schedules-model mend FILE [--all COND] [--ends COND] [--recovered COND] [--before-crash] [--states N] [--moves]
   tools/schedules-model outcomes FILE [--recovered] [--states N] [--breaking COND]
   tools/schedules-model enumerate FILE [--crash] [--cond COND]
+  tools/schedules-model dis FILE
   tools/schedules-model program N
   tools/schedules-model words SEED NUMBER
   tools/schedules-model compare PROGRAM [--lists N] [--full N] [--states N] [--listings N]
@@ -31,9 +33,9 @@ what those of the program must be. It reads litmus texts without faults (no obje
 
 PLAN is [--seed S] [--length N] [--first F] [--runs K] [--crash-after T]. `live` writes the report of one of the journals that may
 be, that in the order of the list; with --check it says what is wrong with a report, which may be that of any of them,
-and nothing where it is right. The exit status is the program's, and of --check 0 or 1. `program` writes litmus text N
-of many, which have all instructions and no meaning. `words` writes the first five words that choose the steps of the
-schedule of this number.
+and nothing where it is right. The exit status is the program's, and of --check 0 or 1. `dis` writes the written form of a
+litmus text or a sheet, or its fault. `program` writes litmus text N of many, which have all instructions and no meaning. `words`
+writes the first five words that choose the steps of the schedule of this number.
 
 `check` and `outcomes` make every list of steps of all kinds from the state to which the given steps lead, crashes too, with
 nothing left out: a state that was met before, counts apart, is not gone through again, and there is no other saving. The

@@ -8,13 +8,14 @@ import io
 import sys
 
 from model.commands import (
-    check, enumerate_, explain, fences, hunt, images, law, live, mend, next_, outcomes, program, replay, run, small, tally, trace, words,
+    check, dis, enumerate_, explain, fences, hunt, images, law, live, mend, next_, outcomes, program, replay, run, small, tally, trace, words,
 )
 from model.compare import COMMANDS, HUNTS, LISTINGS, LISTS, LISTS_BEHIND_FULL, STATES, compare
 from model.every_run import SMALL_PROGRAMS, every_run
 from model.machine import Machine
 from model.sets import sets
-from model.texts import Program, steps_of
+from model.sheets import program_of
+from model.texts import steps_of
 
 # What an argument is: a text, a whole number with this value if it is left out, or a word alone.
 TEXT, WORD, NUMBER = {}, {"action": "store_true"}, {"type": int}
@@ -42,6 +43,7 @@ OF_A_FILE = {
 # The others, with their arguments.
 COUNTS = {"lists": LISTS, "full": LISTS_BEHIND_FULL, "states": STATES, "listings": LISTINGS, "commands": COMMANDS, "hunts": HUNTS}
 OTHERS = {
+    dis: {"file": TEXT},
     program: {"number": NUMBER},
     words: {"seed": NUMBER, "number": NUMBER},
     compare: {"built": TEXT} | {f"--{name}": {"type": int, "default": count} for name, count in COUNTS.items()},
@@ -73,7 +75,9 @@ def main(words: list[str] | None = None, given: str | None = None) -> int:
         asked = options.command is not replay and (options.all, options.ends, options.recovered) != (None, None, None)
         options.length = 1000 if asked else 100
     with open(options.file, encoding="ascii") as file:
-        machine = Machine(Program(file.read()))
+        machine = Machine(program_of(file.read()))
+    if options.command is mend and machine.program.sheet_lines is not None:
+        raise SystemExit("schedules-model: no sheet is mended")
     steps = [] if options.command in (fences, mend) else steps_of(sys.stdin.read() if given is None else given)
     return options.command(machine, steps, options)
 

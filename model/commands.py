@@ -3,6 +3,7 @@
 from __future__ import annotations
 
 import re
+import sys
 from argparse import Namespace
 
 from model.conditions import Condition
@@ -14,10 +15,12 @@ from model.images import candidates_of, closed_sets_of, image_lines, images_of, 
 from model.machine import Machine, Refused, make_all
 from model.mends import mend_told, moved_told
 from model.programs import SHAPES, program_lines, small_lines
+from model.reading import Fault
 from model.rules import CANDIDATES, Step
 from model.runs import outcomes_of, runs_told, verdict_of
 from model.schedules import ends_of as ends_of_schedules
 from model.schedules import enabled_of, loss_of, outcome_text, possible_of, schedule_of, words_of
+from model.sheets import litmus_of
 from model.texts import step_text
 
 
@@ -312,6 +315,18 @@ def outcomes(machine: Machine, steps: list[Step], options: Namespace) -> int:
     make_all(machine, steps)
     runs = runs_told(machine, options.recovered, options.states)
     print(*outcomes_of(runs, options.recovered, options.breaking), sep="\n")
+    return 0
+
+
+def dis(options: Namespace) -> int:
+    """The written form of a litmus text or a sheet, or its fault."""
+    with open(options.file, "rb") as file:
+        data = file.read()
+    try:
+        print(litmus_of(data).written().decode("ascii"), end="")
+    except Fault as fault:
+        print(f"px86: {fault}", file=sys.stderr)
+        return 2
     return 0
 
 

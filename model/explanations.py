@@ -164,7 +164,7 @@ def crashes_explained(program: Program, steps: list[Step], run: list[Step]) -> I
 
 def line_told(program: Program, spot: Any) -> str:
     """On which line of its text an instruction of a program stands."""
-    return f"line {text_lines_of(program.text)[spot.p][spot.block][spot.place]}"
+    return f"line {(program.sheet_lines or text_lines_of(program.text))[spot.p][spot.block][spot.place]}"
 
 
 # Of how many missing writes it is asked at most, and of how many states what is explored for one.

@@ -26,6 +26,9 @@ def number_of(token: str) -> int:
 class Program:
     """Words, initial values, and of each processor the main and the recovery program."""
 
+    # Of each processor, and each of its two programs, the lines of the sheet on which its instructions stand, if one says the text.
+    sheet_lines: list[dict[str, list[int]]] | None = None
+
     def __init__(self, text: str) -> None:
         self.text = text
         self.lines = 0

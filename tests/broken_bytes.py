@@ -1,11 +1,12 @@
 """Gives the program as it is built broken bytes, and wants the very answer that docs/FORMATS.md says of them:
 
   objects     cut at each byte, and with each bit changed
-  programs    litmus texts, cut at each byte, and with each byte replaced by each of `\\0`, space, `(`, `9`, `z` and `\\x80`
+  programs    litmus texts and a sheet, cut at each byte, and with each byte replaced by each of `\\0`, space, `(`, `9`, `z` and
+              `\\x80`; of the sheet also by each of `$`, `&`, `*` and `K`
   steps, scripts and conditions, the same (no word of a command line holds `\\0`)
 
-What is wanted is told by readers that stand here, which were written from docs/FORMATS.md alone, and by the machine of
-model/, the second model: of bytes that have a fault that fault, alone, with status 2; of a program without one its written form
+What is wanted is told by readers that stand here and in model/, which were written from docs/FORMATS.md alone, and by the machine
+of model/, the second model: of bytes that have a fault that fault, alone, with status 2; of a program without one its written form
 by `dis`, and of an object the bytes that say it by `asm`; of steps the reports of `run` and `outcomes`, of a script that of
 `debug`, and of a condition whether it holds, by `images` and by `check`. Of all 240 changes of a bit of one object what is wanted
 stands in a table too, which was worked out by hand; the readers have to say the same.
@@ -22,327 +23,18 @@ from model.conditions import Condition
 from model.enumerated import key_of
 from model.images import candidates_of, named_images_of, values_lines, values_of
 from model.machine import Machine, Refused, make_all
-from model.rules import CANDIDATES
+from model.reading import Fault, Litmus, is_name, is_text, lines_of, number_of, small_number_of, tokens_of
+from model.rules import CANDIDATES, REGISTERS
 from model.runs import Runs, outcomes_of
+from model.sheets import litmus_of
 from model.texts import Program
 from tests.harness import Case, Checks, Px86, unlike
 
-AT_LEAST = {"": 7286}
+AT_LEAST = {"": 9900}
 NEEDS_PROGRAM = True
 REPLACED = b"\0 (9z\x80"
 
-
-class Fault(Exception):
-    """What the program says of an input that it refuses."""
-
-
-# --- lines, tokens and numbers
-
-REGISTERS = "rax rcx rdx rbx rsi rdi r8 r9".split()
 NUMBERS = dict(zip(REGISTERS, [0, 1, 2, 3, 6, 7, 8, 9]))
-MARKS = ",[]:"
-DIGITS = "0123456789"
-
-
-def lines_of(data):
-    """The lines, without the line feeds that end them."""
-    lines = data.split(b"\n")
-    return lines[:-1] if lines[-1] == b"" else lines
-
-
-def is_text(line):
-    """Whether all bytes of a line may stand in a text."""
-    return all(byte in b" \t\r" or 0x21 <= byte <= 0x7E for byte in line)
-
-
-def tokens_of(line):
-    tokens = []
-    for word in line.decode("ascii").split("#")[0].split():
-        run = ""
-        for character in word:
-            if character in MARKS:
-                tokens += [run, character] if run else [character]
-                run = ""
-            else:
-                run += character
-        tokens += [run] if run else []
-    return tokens
-
-
-def is_name(token):
-    letters = "abcdefghijklmnopqrstuvwxyz"
-    return (
-        token[0] in letters
-        and len(token) <= 16
-        and all(it in letters + DIGITS + "_" for it in token)
-        and token not in REGISTERS
-    )
-
-
-def number_of(token):
-    """The value of a number of 64 bits, or nothing."""
-    digits, base, most, bound = token, DIGITS, 20, 2**64 - 1
-    if token.startswith("0x"):
-        digits, base, most = token[2:], DIGITS + "abcdefABCDEF", 16
-    elif token.startswith("-"):
-        digits, most, bound = token[1:], len(token), 2**63
-    if not digits or len(digits) > most or any(it not in base for it in digits):
-        return None
-    value = int(digits, 16 if token.startswith("0x") else 10)
-    if value > bound:
-        return None
-    return (-value if token.startswith("-") else value) % 2**64
-
-
-def small_number_of(token):
-    """The value of a number of a step, or nothing."""
-    if not 1 <= len(token) <= 10 or any(it not in DIGITS for it in token):
-        return None
-    return int(token) if int(token) < 2**32 else None
-
-
-# --- litmus texts
-
-
-class Litmus:
-    """A program: the words of its lines, their initial values, and of each processor two lists of instructions, each as the
-    text that it is written as, or as a jump and a place."""
-
-    def __init__(self):
-        self.lines = []
-        self.initial = {}
-        self.processors = []
-
-    def words(self):
-        """Each word's number, in order, and its name."""
-        return {8 * g + k: name for g, names in enumerate(self.lines) for k, name in enumerate(names)}
-
-    def written(self):
-        said = ["litmus 1"]
-        said += [" ".join(["line", *names]) for names in self.lines]
-        said += [f"init {name} {self.initial[it]}" for it, name in self.words().items() if self.initial.get(it)]
-        for main, recovery in self.processors:
-            said += ["cpu", *self.program(main)]
-            said += ["recover", *self.program(recovery)] if recovery else []
-            said += ["end"]
-        return "".join(line + "\n" for line in said).encode("ascii")
-
-    def program(self, instructions):
-        places = {it[1] for it in instructions if isinstance(it, tuple)}
-        for place, it in enumerate(instructions):
-            if place in places:
-                yield f"l{place}:"
-            yield f"{it[0]} l{it[1]}" if isinstance(it, tuple) else it
-        if len(instructions) in places:
-            yield f"l{len(instructions)}:"
-
-
-class LineReader:
-    """Reads the tokens of one line of a litmus text, from left to right."""
-
-    def __init__(self, tokens, names, line):
-        self.tokens = tokens
-        self.names = names
-        self.line = line
-
-    def fault(self, text):
-        raise Fault(f"{text} line {self.line}")
-
-    def bad_word(self):
-        self.fault("X1 BadWord")
-
-    def next(self):
-        if not self.tokens:
-            self.bad_word()
-        return self.tokens.pop(0)
-
-    def takes(self, *tokens):
-        """These tokens come next."""
-        for token in tokens:
-            if self.next() != token:
-                self.bad_word()
-
-    def ends(self):
-        if self.tokens:
-            self.bad_word()
-
-    def register(self):
-        token = self.next()
-        return token if token in REGISTERS else self.bad_word()
-
-    def name(self):
-        token = self.next()
-        if token in MARKS:
-            self.bad_word()
-        return token if token in self.names else self.fault("X2 UnknownName")
-
-    def number(self, short):
-        token = self.next()
-        if token[0] not in DIGITS + "-":
-            self.bad_word()
-        value = number_of(token)
-        if value is None or (short and 2**31 <= value < 2**64 - 2**31):
-            self.fault("X3 BadNumber")
-        return str(value)
-
-    def memory(self):
-        """A memory operand, with its brackets."""
-        self.takes("[")
-        token = self.next()
-        if token in MARKS:
-            self.bad_word()
-        if token not in REGISTERS and token not in self.names:
-            self.fault("X2 UnknownName")
-        self.takes("]")
-        return f"[{token}]"
-
-    def register_or_number(self, short):
-        return self.register() if self.tokens[:1] and self.tokens[0] in REGISTERS else self.number(short)
-
-    def instruction(self):
-        """An instruction as it is written; of a jump its name and its label."""
-        said = self.operation()
-        self.ends()
-        return said
-
-    def operation(self):
-        operation = self.next()
-        if operation in ("mfence", "sfence", "nop"):
-            return operation
-        if operation in ("clflush", "clflushopt", "clwb"):
-            return f"{operation} {self.memory()}"
-        if operation in ("jmp", "jz", "jnz"):
-            label = self.next()
-            return self.bad_word() if label in MARKS else (operation, label)
-        if operation == "lock":
-            locked = self.next()
-            return f"lock {locked} {self.memory_and_register()}" if locked in ("xadd", "cmpxchg") else self.bad_word()
-        if operation == "xchg":
-            return f"xchg {self.memory_and_register()}"
-        if operation in ("add", "cmp"):
-            register = self.register()
-            self.takes(",")
-            return f"{operation} {register}, {self.number(True)}"
-        return f"mov {self.moved()}" if operation == "mov" else self.bad_word()
-
-    def memory_and_register(self):
-        memory = self.memory()
-        self.takes(",")
-        return f"{memory}, {self.register()}"
-
-    def moved(self):
-        if self.tokens[:1] == ["["]:
-            memory = self.memory()
-            self.takes(",")
-            return f"{memory}, {self.register_or_number(True)}"
-        register = self.register()
-        self.takes(",")
-        if self.tokens[:1] == ["["]:
-            return f"{register}, {self.memory()}"
-        return f"{register}, {self.register_or_number(False)}"
-
-
-class Block:
-    """One program of a processor, while it is read."""
-
-    def __init__(self):
-        self.instructions = []
-        self.labels = {}
-        self.lines = []
-
-
-class LitmusReader:
-    """Reads a litmus text, line by line."""
-
-    def __init__(self, data):
-        self.litmus = Litmus()
-        self.names = {}
-        self.begun = False
-        # The main and the recovery program that are read, and all that were.
-        self.blocks = None
-        self.all = []
-        lines = lines_of(data)
-        for number, line in enumerate(lines, 1):
-            if not is_text(line):
-                raise Fault(f"X7 NotAscii line {number}")
-            tokens = tokens_of(line)
-            if tokens:
-                self.read(LineReader(tokens, self.names, number))
-        if self.blocks or not self.begun:
-            raise Fault(f"X6 MissingEnd line {max(len(lines), 1)}")
-        self.litmus.processors = [tuple(map(self.resolved, both)) for both in self.all]
-
-    def read(self, line):
-        if not self.begun:
-            line.takes("litmus", "1")
-            line.ends()
-            self.begun = True
-        elif self.blocks:
-            self.read_in_program(line)
-        elif line.tokens[0] == "cpu":
-            if len(self.all) == 16:
-                line.fault("X5 TooLong")
-            line.takes("cpu")
-            line.ends()
-            self.blocks = [Block()]
-        elif line.tokens[0] == "line" and not self.all:
-            self.read_names(line)
-        elif line.tokens[0] == "init" and not self.all:
-            line.takes("init")
-            word = self.names[line.name()]
-            self.litmus.initial[word] = int(line.number(False))
-            line.ends()
-        else:
-            line.bad_word()
-
-    def read_names(self, line):
-        names = line.tokens[1:]
-        if len(self.litmus.lines) == 64:
-            line.fault("X8 L1 TooManyLines")
-        if len(names) > 8:
-            line.fault("X8 L2 LineTooLong")
-        for place, name in enumerate(names):
-            if not is_name(name):
-                line.fault("X8 L4 BadName")
-            if name in self.names:
-                line.fault("X8 L3 DoubleName")
-            self.names[name] = 8 * len(self.litmus.lines) + place
-        self.litmus.lines.append(names)
-
-    def read_in_program(self, line):
-        block = self.blocks[-1]
-        if line.tokens[1:2] == [":"]:
-            label = line.next()
-            if not is_name(label) or label in block.labels:
-                line.fault("X4 BadLabel")
-            block.labels[label] = len(block.instructions)
-            line.takes(":")
-            line.ends()
-        elif line.tokens[0] == "end":
-            line.takes("end")
-            line.ends()
-            self.all.append(self.blocks if len(self.blocks) == 2 else [*self.blocks, Block()])
-            self.blocks = None
-        elif line.tokens[0] == "recover" and len(self.blocks) == 1:
-            line.takes("recover")
-            line.ends()
-            self.blocks.append(Block())
-        else:
-            if len(block.instructions) == 1024:
-                line.fault("X5 TooLong")
-            block.instructions.append(line.instruction())
-            block.lines.append(line.line)
-
-    def resolved(self, block):
-        """The instructions with places in place of labels."""
-        said = []
-        for it, line in zip(block.instructions, block.lines):
-            if isinstance(it, tuple):
-                if it[1] not in block.labels:
-                    raise Fault(f"X4 BadLabel line {line}")
-                it = it[0], block.labels[it[1]]
-            said.append(it)
-        return said
 
 
 # --- codes
@@ -734,14 +426,14 @@ def report(lines, status=0):
 
 
 def program_of(data):
-    """The reader of a program file."""
-    return ObjectReader(data) if is_object(data) else LitmusReader(data)
+    """What a program file says."""
+    return ObjectReader(data).litmus if is_object(data) else litmus_of(data)
 
 
 def written(data):
     """What `dis` writes."""
     try:
-        return 0, program_of(data).litmus.written(), b""
+        return 0, program_of(data).written(), b""
     except Fault as fault:
         return refused(fault)
 
@@ -919,6 +611,29 @@ clwb [r9]
 end
 """
 
+# Each abbreviation of a sheet, and a jump in a copy.
+SHEET = b"""sheet 1 # a sheet
+const K 3
+const V1 -1
+line * 2 n$ m$[2]
+line x
+const AT &x
+init x AT
+init n1 K 7 0x8
+cpu
+mov rdi, &m10
+end
+cpu * 2
+mov rsi, AT
+a$:
+mov [n0], V1
+add rax, $
+jnz a$
+recover 2
+cmp rcx, K
+end
+"""
+
 FIRST = b"litmus 1\nline x\ncpu\nmov [x], 1\nclflush [x]\nsfence\nend\n"
 
 # What steps, scripts and conditions are of.
@@ -981,7 +696,7 @@ def objects():
 
 def rich_object():
     """The object of the rich text, of which each instruction's bytes are made by the forms."""
-    litmus = LitmusReader(RICH).litmus
+    litmus = litmus_of(RICH)
     counts = [len(names) for names in litmus.lines]
     addresses = {name: 4096 + 8 * word for word, name in litmus.words().items()}
     said = b"PX86OBJ2" + bytes([len(counts), *counts])
@@ -1067,6 +782,8 @@ def cases_of_texts() -> Iterator[Case]:
     for title, data in ("the first text", FIRST), ("the rich text", RICH):
         for name, changed in [*cuts_of(data), *replacements_of(data)]:
             yield Case(f"{title}, {name}", answered, functools.partial(written, changed), ["dis"], changed)
+    for name, changed in [*cuts_of(SHEET), *replacements_of(SHEET, REPLACED + b"$&*K")]:
+        yield Case(f"the sheet, {name}", answered, functools.partial(written, changed), ["dis"], changed)
 
 
 def cases_of_steps() -> Iterator[Case]:

@@ -1,4 +1,4 @@
-"""Compares how the syntax files of tools/editors color litmus texts, the one of Vim as vim itself applies it, and the TextMate
+"""Compares how the syntax files of tools/editors color litmus texts and sheets, the one of Vim as vim itself applies it, and the TextMate
 grammar as a reader of its rules here applies them: with a text whose tokens were sorted by hand, with docs/FORMATS.md, which has
 the instructions and registers, and with one another on all texts of examples/. Where vim is absent, what needs it counts as not run.
 """
@@ -16,7 +16,7 @@ from typing import Any
 
 from tests.harness import TOP, Case, Checks, Px86, absent, read, run, unlike
 
-AT_LEAST = {"": 437}
+AT_LEAST = {"": 486}
 NEEDS_PROGRAM = False
 GRAMMAR = f"{TOP}/tools/editors/px86.tmLanguage.json"
 VIM_SYNTAX = f"{TOP}/tools/editors/syntax.vim"
@@ -34,6 +34,9 @@ SCOPES = {
     "keyword.operator.instruction": "Instruction",
     "variable.language.register": "Register",
     "constant.numeric": "Number",
+    "constant.other.named": "Constant",
+    "constant.other.address": "Address",
+    "keyword.operator.copies": "Copies",
     "variable.other.word": "Word",
 }
 # Each line, and what its tokens are, as docs/FORMATS.md says. Marks are nothing.
@@ -73,6 +76,25 @@ SORTED = [
     ("moved rax, 1", "Word Register Number"),
     ("mov2 rax, 1", "Word Register Number"),
     ("end", "Section"),
+    # Lines of sheets.
+    (" sheet 1 # one", "Header Header Comment Comment"),
+    ("const ITEM0 -5", "Memory Constant Number"),
+    ("const AT_NODE &node", "Memory Constant Address"),
+    ("constant K", "Word Constant"),
+    ("line a_k[4] b[N]", "Memory Word Number Word Constant"),
+    ("line * 2 n$_item n$_$", "Memory Copies Number Word Word"),
+    ("line * LINES line$ rax$", "Memory Copies Constant Word Word"),
+    ("init a 1 &n0_item ITEM0", "Memory Word Number Address Constant"),
+    ("cpu * 0x2", "Section Copies Number"),
+    ("mov rsi, &n$_item", "Instruction Register Address"),
+    ("mov [n$_item], ITEM$", "Instruction Word Constant"),
+    ("mov rax, $", "Instruction Register Number"),
+    ("cmp rax, 1$2", "Instruction Register Number"),
+    ("add rax, -$", "Instruction Register Number"),
+    ("again$ :", "Label"),
+    ("l$_$:", "Label"),
+    ("jnz l$_$", "Jump Target"),
+    ("recover 1", "Section Number"),
 ]
 
 # --- tokens
@@ -209,16 +231,18 @@ def of_examples(_: Px86) -> Checks:
 def by_vim(px86: Px86) -> Checks:
     """Vim tells the tokens that were sorted by hand, which texts are of its type, and of each example what TextMate tells."""
     if not shutil.which("vim"):
-        yield from absent("vim", range(len(SORTED) + 2 + len(examples())))
+        yield from absent("vim", range(len(SORTED) + 3 + len(examples())))
         return
     by_hand = px86.keep("sorted.litmus", "".join(f"{line}\n" for line, _ in SORTED))
     other = px86.keep("other.litmus", 'X86 SB\n"litmus 1"\n{ x=0; }\n P0 ;\n')
     late = px86.keep("late.litmus", "# one\n\n litmus 1 # two\n")
-    told = asked_of_vim(px86, [by_hand, other, late, *examples()])
+    sheet = px86.keep("sheet.litmus", "# one\nsheet 1\n")
+    told = asked_of_vim(px86, [by_hand, other, late, sheet, *examples()])
     for (line, wanted), kinds in zip(SORTED, told[by_hand][1], strict=True):
         yield repr(line), unlike(at_tokens(line, kinds), wanted.split())
     yield "the type of a text of another tool", unlike(told[other][0] == "px86", False)
     yield "the type of a text behind comments", unlike(told[late][0], "px86")
+    yield "the type of a sheet", unlike(told[sheet][0], "px86")
     for path in examples():
         (kind, rows), lines = told[path], read(path).splitlines()
         differ = [line for line, row in zip(lines, rows) if at_tokens(line, row) != grammar_tokens(line)]

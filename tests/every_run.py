@@ -2,7 +2,7 @@
 makes every list of steps; programs in which a hunt finds something; data structures in sizes (bench/programs); and small random
 programs, of which the model says what every run shows.
 
-Beside NAME.litmus in examples/, examples/guide and examples/every-run (of the gallery see tests/gallery.py) stand
+Beside NAME.litmus in examples/, examples/guide, examples/every-run and examples/sheets (of the gallery see tests/gallery.py) stand
 
   NAME.check      a command, and its report without the line `states`. Where a condition fails there is a line for each state
                   that may be told: the program has one of them, and steps that lead there
@@ -24,9 +24,9 @@ from tests.harness import TOP, Case, Checks, Px86, differs, model, read, run, un
 # How many seconds the longest cases may take, where other parts have the processors too.
 LONG = 1800
 # Of hunts that find something each has two checks.
-AT_LEAST = {"": 371, "hunts of ": 120}
+AT_LEAST = {"": 383, "hunts of ": 120}
 NEEDS_PROGRAM = True
-FOLDERS = "examples", "examples/guide", "examples/every-run"
+FOLDERS = "examples", "examples/guide", "examples/every-run", "examples/sheets"
 GALLERY = "examples/x86-tso", "examples/persistency", "examples/idioms"
 
 
@@ -46,7 +46,7 @@ def check_example(px86: Px86, path: str) -> Checks:
     said = re.search(r": (right|broken)\.$", read(it.litmus).partition("\n")[0])
     if said and unlike(said[1], ("right", "broken")[it.status]):
         yield "the text", f"it says that it is {said[1]}"
-    elif not said and path.startswith("examples/every-run/"):
+    elif not said and path.startswith(("examples/every-run/", "examples/sheets/")):
         yield "the text", "it does not say whether it is right"
 
 
@@ -75,7 +75,7 @@ def index(_: Px86) -> Checks:
     """Of each text some run is asked, and it has a row in the index; and each row has a text."""
     texts = [path.removesuffix(".litmus") for path in files_of(FOLDERS[2:], "litmus")]
     names = {f"{path.removeprefix('examples/')}.litmus" for path in texts}
-    rows = set(re.findall(r"^\| `(every-run/[^`]*)` \|", read("examples/README.md"), re.M))
+    rows = set(re.findall(r"^\| `((?:every-run|sheets)/[^`]*)` \|", read("examples/README.md"), re.M))
     asked = [path for path in texts if not os.path.exists(f"{path}.check")]
     yield "", unlike(sorted(names), sorted(rows)) or unlike(asked, [])
 

@@ -18,7 +18,8 @@ The others hold for the cases below them:
   many N TEXT      `%` stands for this text, written N times
   frame N TEXT     the cases' texts stand in place of `@` in this one, on line N, which faults leave out
   whole            they are whole texts, and faults have their line (so at a file's beginning)
-  names A | B      a case with `*` is one for each name, which stands in place of `*` (up to `frame` or `whole`)
+  names A | B      a case with `*` is one for each name, which stands in place of `*` (up to `frame` or `whole`); elsewhere a `*`
+                   is itself
 
 NAME.rows has worked rows, in sections that begin with these lines. Empty lines say nothing:
 
@@ -201,7 +202,7 @@ class Lines:
     number: str = ""
     much: str = ""
     value: str = ""
-    names: tuple[str, ...] = ("",)
+    names: tuple[str, ...] = ("*",)
 
     def hear(self, line: str) -> None:
         """Takes a line that is no case."""
@@ -215,9 +216,9 @@ class Lines:
             self.much = text.strip() * int(count)
         elif word == "frame":
             self.number, self.frame = map(str.strip, rest.split(None, 1))
-            self.names = ("",)
+            self.names = ("*",)
         elif word == "whole":
-            self.frame, self.number, self.names = "@", "", ("",)
+            self.frame, self.number, self.names = "@", "", ("*",)
         elif word == "names":
             self.names = tuple(re.split(r" *\| *", rest.strip()))
         else:
