@@ -63,18 +63,20 @@ no_text (b ∷ rest) o text begins = elim (cases_Bool (nat_eq 80 b)) [
 
 -- ---- sheets
 
--- what begins with `litmus` is none
-litmus_is_no_sheet : (lines : List (List ℕ)) (tokens : List (List ℕ)) (rows : List (List (List ℕ))) → rows_of lines ≡ (codes "litmus" ∷ tokens) ∷ rows → are_of_sheet lines ≡ false
+-- what begins with `litmus` is none: a line tells by its tokens, and one without tokens leaves it to the lines after it
+line_tells : (line : List ℕ) (lines : List (List ℕ)) (tokens : List (List ℕ)) (rows : List (List (List ℕ)))
+    → (rows_of lines ≡ (codes "litmus" ∷ tokens) ∷ rows → are_of_sheet lines ≡ false)
+    → (found : List (List ℕ)) → tokens_of line ≡ found → rows_of (line ∷ lines) ≡ (codes "litmus" ∷ tokens) ∷ rows → are_of_sheet (line ∷ lines) ≡ false
 unfolding are_of_sheet
-litmus_is_no_sheet [] tokens rows is = refl
-litmus_is_no_sheet (line ∷ lines) tokens rows is = first_tells (tokens_of line) refl
-  where
-    first_tells : (found : List (List ℕ)) → tokens_of line ≡ found → are_of_sheet (line ∷ lines) ≡ false
-    first_tells [] none = rw none (litmus_is_no_sheet lines tokens rows (rw none at is))
-    first_tells (first ∷ others) some =
-        let here : ((first ∷ others) ∷ rows_of lines) ≡ (codes "litmus" ∷ tokens) ∷ rows = rw some at is in
-        let same : first ≡ codes "litmus" = ap (λ (found : List (List (List ℕ))). get_or (get_or found 0 []) 0 []) here in
-        rw (some, same) refl
+line_tells line lines tokens rows later [] none is = rw none (later (rw none at is))
+line_tells line lines tokens rows later (first ∷ others) some is =
+    let here : ((first ∷ others) ∷ rows_of lines) ≡ (codes "litmus" ∷ tokens) ∷ rows = rw some at is in
+    let same : first ≡ codes "litmus" = ap (λ (found : List (List (List ℕ))). get_or (get_or found 0 []) 0 []) here in
+    rw (some, same) refl
+
+litmus_is_no_sheet : (lines : List (List ℕ)) (tokens : List (List ℕ)) (rows : List (List (List ℕ))) → rows_of lines ≡ (codes "litmus" ∷ tokens) ∷ rows → are_of_sheet lines ≡ false
+litmus_is_no_sheet [] tokens rows is = absurd cc
+litmus_is_no_sheet (line ∷ lines) tokens rows is = line_tells line lines tokens rows (litmus_is_no_sheet lines tokens rows) (tokens_of line) refl is
 
 text_is_no_sheet : (bytes : List ℕ) (o : Object) → IsText (lines_of bytes) o → is_sheet bytes ≡ false
 text_is_no_sheet bytes o text = litmus_is_no_sheet (lines_of bytes) (codes "1" ∷ []) (text.data_part ++ text.processor_part) text.rows
