@@ -24,7 +24,7 @@ from tests.harness import TOP, Case, Checks, Px86, differs, model, read, run, un
 # How many seconds the longest cases may take, where other parts have the processors too.
 LONG = 1800
 # Of hunts that find something each has two checks.
-AT_LEAST = {"": 383, "hunts of ": 120}
+AT_LEAST = {"": 391, "hunts of ": 128}
 NEEDS_PROGRAM = True
 FOLDERS = "examples", "examples/guide", "examples/every-run", "examples/sheets"
 GALLERY = "examples/x86-tso", "examples/persistency", "examples/idioms"
