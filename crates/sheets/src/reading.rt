@@ -1,14 +1,14 @@
 //! Reading a sheet.
-ghost use Rattle.std.specs.Prelude.{◌≡◌};
+ghost use Rattle.std.specs.Prelude.{◌≡◌, IfOk};
 ghost use Rattle.outcomes.specs.Calls.{Answers};
 ghost use Rattle.outcomes.specs.Faults.{fault_in};
 ghost use Rattle.text_tokens.specs.Text.{tokens_of};
-ghost use Rattle.sheets.specs.Reading.{begins_sheet, is_sheet, sheet_of};
+ghost use Rattle.sheets.specs.Reading.{begins_sheet, is_sheet, object_told, sheet_of};
 
 use crate::sheet::Sheet;
 use litmus_text::{LinedObject, TextFault, read_lined};
 use outcomes::OrNoMemory;
-use std::alloc::Global;
+use std::alloc::{AllocError, Global};
 use text_tokens::{Lines, Tokens};
 
 /// Whether the tokens of a line begin with `sheet`; none where it has no tokens.
@@ -34,6 +34,17 @@ pub fn is_sheet(text: &[u8]) -> bool
     false
 }
 
+/// What the litmus text of a sheet says, with the lines of the sheet.
+fn told(alloc: Global, sheet: &Sheet, lined: LinedObject) -> Result<LinedObject, AllocError>
+    ensures { IfOk result (λ told. told ≡ object_told sheet.now lined) }
+{
+    let lines = lined.lines.renumbered(alloc, sheet.lines())?;
+    Ok(LinedObject {
+        object: lined.object,
+        lines,
+    })
+}
+
 /// The object that a sheet says, and the lines on which its instructions stand.
 ///
 /// # Errors
@@ -46,10 +57,7 @@ pub fn read_sheet(alloc: Global, text: &[u8]) -> Result<LinedObject, OrNoMemory<
     let mut sheet = Sheet::read(alloc, text)?;
     sheet.finish()?;
     match read_lined(alloc, sheet.text()) {
-        Ok(lined) => Ok(LinedObject {
-            lines: lined.lines.renumbered(alloc, sheet.lines())?,
-            object: lined.object,
-        }),
+        Ok(lined) => Ok(told(alloc, &sheet, lined)?),
         Err(OrNoMemory::Fault(fault)) => Err(OrNoMemory::Fault(sheet.fault_told(fault))),
         Err(OrNoMemory::NoMemory) => Err(OrNoMemory::NoMemory),
     }
