@@ -150,7 +150,7 @@ def written(px86: Px86, words: list[str], report: bytes, numbers: Iterable[int])
 
 
 def helps(px86: Px86) -> Checks:
-    """What a help says is asked in tests/program."""
+    """What a help says is asked in tests/program.py."""
     for words in [[], *([name] for name in commands_of(px86))]:
         for name in "--help", "-h":
             made = written(px86, [*words, name], px86(*words, name).written, [0, 200])

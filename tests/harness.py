@@ -106,11 +106,29 @@ def read(path: str) -> str:
         return file.read()
 
 
+def read_bytes(path: str) -> bytes:
+    """The bytes of a file, in the same way."""
+    with open(os.path.join(TOP, path), "rb") as file:
+        return file.read()
+
+
+def write(path: str, content: bytes, mode: int = 0o644) -> None:
+    """Writes a file with this mode."""
+    with open(path, "wb") as file:
+        file.write(content)
+    os.chmod(path, mode)
+
+
 def commands_of(px86: Px86, option: str = "") -> list[str]:
     """The names of the commands, as the help of all lists them; of those alone whose help has this option."""
     listed = px86("--help").out.partition("\nCommands:\n")[2].partition("\n\n")[0]
     names = re.findall(r"^  ([a-z]+)  ", listed, re.M)
     return [name for name in names if not option or option in px86(name, "--help").out]
+
+
+def with_needs(command: str) -> str:
+    """A command with what it needs beside FILE."""
+    return {"replay": "replay --number 1"}.get(command, f"{command} --all a" if command in ("hunt", "fences", "mend", "check") else command)
 
 
 @functools.cache

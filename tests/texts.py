@@ -336,7 +336,7 @@ def rows_of_codes(name: str) -> Iterator[Row]:
 # --- all rows, and the numbers of the documents
 
 READS = {"lines": rows_of_lines, "rows": rows_of_rows, "codes": rows_of_codes}
-# Out of memory and threads that do not start are asked for in tests/refused-memory, devices in tests/program. A script's
+# Out of memory and threads that do not start are asked for in tests/refused-memory, devices in tests/program.py. A script's
 # report has G2 and G3, and they are no faults. M1 would need 2^62 steps, and V2 was not seen to come.
 ELSEWHERE = set("X9 O6 C6 E3 S2 I2 K2 K3 V1 R3 G4 M15 F1 F2 F3 G2 G3 M1 V2".split())
 

@@ -1,7 +1,7 @@
 """Builds the program with no proof, by `./px86 --unproved` in a copy of the repository, as a newcomer does: it is kept, says each
 time that it is not proved, answers as the examples say, is built anew where a source is newer, is not taken for the proved
 program, and is installed where that is asked for. What can't be compiled is refused, and what was begun leaves nothing. It takes a
-minute or two of one processor. What the examples say was not taken from the program (tests/program).
+minute or two of one processor. What the examples say was not taken from the program (tests/program.py).
 """
 
 from __future__ import annotations

@@ -1,4 +1,3 @@
-#!/usr/bin/env python3
 """Gives the program as it is built broken bytes, and wants the very answer that docs/FORMATS.md says of them:
 
   objects     cut at each byte, and with each bit changed
@@ -6,27 +5,18 @@
               `\\x80`; of the sheet also by each of `$`, `&`, `*` and `K`
   steps, scripts and conditions, the same (no word of a command line holds `\\0`)
 
-  tests/broken-bytes [PROGRAM]      PROGRAM: that of crates/px86/out if left out (proved and built first)
-
 What is wanted is told by readers that stand here and in model/, which were written from docs/FORMATS.md alone, and by the machine
 of model/, the second model: of bytes that have a fault that fault, alone, with status 2; of a program without one its written form
 by `dis`, and of an object the bytes that say it by `asm`; of steps the reports of `run` and `outcomes`, of a script that of
-`debug`, and of a condition whether it holds, by `images` and by `check`. Of all 240 changes of a bit of one object what is wanted stands in a table too, which was worked out
-by hand; the readers have to say the same.
-
-The last line is `N passed, M failed`.
+`debug`, and of a condition whether it holds, by `images` and by `check`. Of all 240 changes of a bit of one object what is wanted
+stands in a table too, which was worked out by hand; the readers have to say the same.
 """
 
-import os
-import resource
-import signal
-import subprocess
-import sys
-import tempfile
-import types
+from __future__ import annotations
 
-TOP = os.path.dirname(os.path.dirname(os.path.abspath(__file__)))
-sys.path.insert(0, TOP)
+import functools
+import types
+from collections.abc import Callable, Iterator
 
 from model.commands import listing_of
 from model.conditions import Condition
@@ -38,10 +28,11 @@ from model.rules import CANDIDATES, REGISTERS
 from model.runs import Runs, outcomes_of
 from model.sheets import litmus_of
 from model.texts import Program
+from tests.harness import Case, Checks, Px86, unlike
 
+AT_LEAST = {"": 9494, "the sheet, ": 2208}
+NEEDS_PROGRAM = True
 REPLACED = b"\0 (9z\x80"
-# How many cases there are at least.
-AT_LEAST = 9900
 
 NUMBERS = dict(zip(REGISTERS, [0, 1, 2, 3, 6, 7, 8, 9]))
 
@@ -529,7 +520,7 @@ def checked(program, question, text):
     return report([" ".join(map(str, [question, "fails", *machine.persisted.values()])), "steps 0"], 1)
 
 
-# --- cases
+# --- what is changed
 
 
 def cuts_of(data):
@@ -549,40 +540,6 @@ def flips_of(data):
     for place in range(len(data)):
         for bit in range(8):
             yield f"byte {place}, bit {bit}", data[:place] + bytes([data[place] ^ 1 << bit]) + data[place + 1 :]
-
-
-class Cases:
-    """Runs the program, and counts."""
-
-    def __init__(self, program, folder):
-        self.program = program
-        self.folder = folder
-        self.out = open(os.path.join(folder, "out"), "w+b", buffering=0)
-        self.err = open(os.path.join(folder, "err"), "w+b", buffering=0)
-        self.passed = 0
-        self.failed = 0
-
-    def check(self, name, wrong):
-        if wrong:
-            self.failed += 1
-            print(f"FAILED: {name}: {wrong}")
-        else:
-            self.passed += 1
-
-    def file(self, data, name="text"):
-        path = os.path.join(self.folder, name)
-        with open(path, "wb") as file:
-            file.write(data)
-        return path
-
-    def ask(self, name, want, words, steps=b""):
-        for file in self.out, self.err:
-            file.seek(0)
-            file.truncate()
-        with open(self.file(steps, "steps"), "rb") as given:
-            status = subprocess.call([self.program, *words], stdin=given, stdout=self.out, stderr=self.err)
-        got = (status, *(os.pread(file.fileno(), 1 << 20, 0) for file in (self.out, self.err)))
-        self.check(name, None if got == want else f"{got}, not {want}")
 
 
 # The object of version 1 of a word and of a processor that runs one `sfence`: 30 bytes.
@@ -729,23 +686,6 @@ STILL = b"litmus 1\nline x\nline y\ninit x 1\ninit y 2\n"
 CONDITION = b"persisted x = 1 and not ( coherent y > 0x2 or reg 0 rax != 3 )"
 
 
-def test_objects(cases):
-    table = small_table()
-    for (name, data), want in zip(flips_of(SMALL), [table[place, bit] for place in range(len(SMALL)) for bit in range(8)]):
-        said = written(data)
-        cases.check(f"the small object, {name}, by the readers", None if said == want else f"{said}, not {want}")
-    for name, data in cuts_of(SMALL):
-        want = [refused("X6 MissingEnd line 1"), *[refused("X1 BadWord line 1")] * 6, *[refused("O2 Short")] * 23][len(data) :]
-        said = written(data)
-        cases.check(f"the small object, {name}, by the readers", None if [said] == want[:1] or not want else f"{said}")
-    for title, data in objects():
-        for name, changed in [*cuts_of(data), *flips_of(data)]:
-            file = cases.file(changed)
-            cases.ask(f"{title}, {name}", written(changed), ["dis", file])
-            if data == SMALL and is_object(changed):
-                cases.ask(f"{title}, {name}, assembled", assembled(changed), ["asm", file])
-
-
 def objects():
     """Objects by their names: the small one, in both versions; the text of the first example; and one of all operands."""
     yield "the small object", SMALL
@@ -802,65 +742,73 @@ def form_of(text, addresses):
     raise ValueError(text)
 
 
-def test_texts(cases):
+# --- cases
+
+Wanted = tuple[int, bytes, bytes]
+
+
+def answered(px86: Px86, wanted: Callable[[], Wanted], words: list[str | bytes], text: bytes, steps: bytes = b"") -> Checks:
+    """What comes of a command on a file with this text, and with these steps."""
+    px86.keep("text", text)
+    done = px86(*words, "text", given=steps, cwd=px86.folder)  # type: ignore[arg-type]
+    yield "", unlike((done.status, done.written, done.said), wanted())
+
+
+def told_by_readers(_: Px86, data: bytes, wanted: Wanted) -> Checks:
+    """The readers say what stands in the table."""
+    yield "", unlike(written(data), wanted)
+
+
+def cases_of_readers() -> Iterator[Case]:
+    """What the readers say of the small object."""
+    table = small_table()
+    for (name, data), place in zip(flips_of(SMALL), [(place, bit) for place in range(len(SMALL)) for bit in range(8)]):
+        yield Case(f"the small object, {name}, by the readers", told_by_readers, data, table[place])
+    faults = ["X6 MissingEnd line 1", *["X1 BadWord line 1"] * 6, *["O2 Short"] * 23]
+    wanted = [*map(refused, faults), report(["litmus 1", "line w0", "cpu", "sfence", "end"])]
+    for (name, data), it in zip(cuts_of(SMALL), wanted, strict=True):
+        yield Case(f"the small object, {name}, by the readers", told_by_readers, data, it)
+
+
+def cases_of_objects() -> Iterator[Case]:
+    for title, data in objects():
+        for name, changed in [*cuts_of(data), *flips_of(data)]:
+            yield Case(f"{title}, {name}", answered, functools.partial(written, changed), ["dis"], changed)
+            if data == SMALL and is_object(changed):
+                yield Case(f"{title}, {name}, assembled", answered, functools.partial(assembled, changed), ["asm"], changed)
+
+
+def cases_of_texts() -> Iterator[Case]:
     for title, data in ("the first text", FIRST), ("the rich text", RICH):
         for name, changed in [*cuts_of(data), *replacements_of(data)]:
-            cases.ask(f"{title}, {name}", written(changed), ["dis", cases.file(changed)])
+            yield Case(f"{title}, {name}", answered, functools.partial(written, changed), ["dis"], changed)
     for name, changed in [*cuts_of(SHEET), *replacements_of(SHEET, REPLACED + b"$&*K")]:
-        cases.ask(f"the sheet, {name}", written(changed), ["dis", cases.file(changed)])
+        yield Case(f"the sheet, {name}", answered, functools.partial(written, changed), ["dis"], changed)
 
 
-def test_steps(cases):
+def cases_of_steps() -> Iterator[Case]:
     program = Program(SHARED.decode("ascii"))
-    file = cases.file(SHARED)
     for name, changed in [*cuts_of(SHARED_STEPS), *replacements_of(SHARED_STEPS)]:
-        cases.ask(f"steps, {name}", ran(program, changed), ["run", file], changed)
-        cases.ask(f"steps of outcomes, {name}", ended(program, changed), ["outcomes", "--recovered", file], changed)
+        yield Case(f"steps, {name}", answered, functools.partial(ran, program, changed), ["run"], SHARED, changed)
+        wanted = functools.partial(ended, program, changed)
+        yield Case(f"steps of outcomes, {name}", answered, wanted, ["outcomes", "--recovered"], SHARED, changed)
     for name, changed in [*cuts_of(SCRIPT), *replacements_of(SCRIPT)]:
-        cases.ask(f"script, {name}", debugged(program, changed), ["debug", file], changed)
+        yield Case(f"script, {name}", answered, functools.partial(debugged, program, changed), ["debug"], SHARED, changed)
 
 
-def test_conditions(cases):
-    program = Program(SHARED.decode("ascii"))
-    file = cases.file(SHARED)
+def cases_of_conditions() -> Iterator[Case]:
+    program, still = Program(SHARED.decode("ascii")), Program(STILL.decode("ascii"))
     for name, changed in [*cuts_of(CONDITION), *replacements_of(CONDITION, REPLACED.replace(b"\0", b""))]:
-        words = [b"images", b"--count", b"--all=" + changed, b"--some=" + changed, file.encode()]
-        cases.ask(f"condition, {name}", held(program, [("exec", 0)], changed), words, b"exec 0\n")
-    program = Program(STILL.decode("ascii"))
-    file = cases.file(STILL)
-    for name, changed in [*cuts_of(CONDITION), *replacements_of(CONDITION, REPLACED.replace(b"\0", b""))]:
+        words = ["images", "--count", b"--all=" + changed, b"--some=" + changed]
+        wanted = functools.partial(held, program, [("exec", 0)], changed)
+        yield Case(f"condition, {name}", answered, wanted, words, SHARED, b"exec 0\n")
         for question in "all", "ends":
-            words = [b"check", f"--{question}=".encode() + changed, file.encode()]
-            cases.ask(f"condition of check, {question}, {name}", checked(program, question, changed), words)
+            wanted = functools.partial(checked, still, question, changed)
+            words = ["check", f"--{question}=".encode() + changed]
+            yield Case(f"condition of check, {question}, {name}", answered, wanted, words, STILL)
 
 
-def built_program():
-    """The program that is named, or that of the repository, proved and built first."""
-    if len(sys.argv) > 1:
-        return os.path.realpath(sys.argv[1])
-    if subprocess.run([f"{TOP}/px86", "--version"], stdout=subprocess.DEVNULL).returncode:
-        raise SystemExit(1)
-    return f"{TOP}/crates/px86/out/px86"
-
-
-def main():
-    program = built_program()
-    if not os.access(program, os.X_OK):
-        print(f"tests/broken-bytes: there is no program {program}\n0 passed, 1 failed")
-        return 1
-    with tempfile.TemporaryDirectory() as folder:
-        cases = Cases(program, folder)
-        # A run that takes 60 seconds of a core is ended, and so is this script where one blocks.
-        resource.setrlimit(resource.RLIMIT_CPU, (60, resource.RLIM_INFINITY))
-        signal.alarm(900)
-        for test in test_objects, test_texts, test_steps, test_conditions:
-            test(cases)
-    if cases.passed + cases.failed < AT_LEAST:
-        print(f"FAILED: there are {cases.passed + cases.failed} cases, and at least {AT_LEAST}")
-        cases.failed += 1
-    print(f"{cases.passed} passed, {cases.failed} failed")
-    return int(cases.failed > 0)
-
-
-if __name__ == "__main__":
-    sys.exit(main())
+def cases() -> Iterator[Case]:
+    """All cases."""
+    for part in cases_of_readers, cases_of_objects, cases_of_texts, cases_of_steps, cases_of_conditions:
+        yield from part()
