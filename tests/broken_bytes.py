@@ -30,7 +30,7 @@ from model.sheets import litmus_of
 from model.texts import Program
 from tests.harness import Case, Checks, Px86, unlike
 
-AT_LEAST = {"": 9900}
+AT_LEAST = {"": 9494, "the sheet, ": 2208}
 NEEDS_PROGRAM = True
 REPLACED = b"\0 (9z\x80"
 

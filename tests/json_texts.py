@@ -7,6 +7,8 @@ import json
 from collections.abc import Iterable, Iterator, Sequence
 from typing import Any
 
+from model.sheets import is_sheet, program_of
+
 Lines = Iterator[str]
 
 REGISTERS = ("rax", "rcx", "rdx", "rbx", "rsi", "rdi", "r8", "r9")
@@ -486,6 +488,8 @@ def mend(o: Any, options: Sequence[str]) -> Lines:
 
 def lines_of(text: bytes) -> list[dict[str, list[int]]]:
     """The lines of a text on which its instructions stand, of each processor those of its two programs."""
+    if is_sheet(text):
+        return program_of(text.decode()).sheet_lines or []
     processors, program = [], None
     for number, line in enumerate(text.decode("latin-1").split("\n"), 1):
         tokens = line.partition("#")[0].replace(":", " : ").split()
@@ -547,6 +551,8 @@ def sites(o: Any, state: Any) -> Iterator[tuple[Any, Any]]:
 
 def cache_lines_of(text: bytes) -> dict[str, int]:
     """The number of the cache line of each word of a text."""
+    if is_sheet(text):
+        return {name: word // 8 for name, word in program_of(text.decode()).words.items()}
     rows = [line.partition("#")[0].split() for line in text.decode("latin-1").split("\n")]
     return {name: number for number, row in enumerate(row for row in rows if row[:1] == ["line"]) for name in row[1:]}
 

@@ -706,9 +706,9 @@ def known_cases() -> Iterator[Case]:
 
 
 def cases() -> Iterator[Case]:
-    """All cases."""
+    """All cases. In a sheet a line may be there for several processors: no line of one is left out or put in."""
     yield from known_cases()
-    for path in sorted(glob.glob(f"{TOP}/examples/**/*.check", recursive=True)):
+    for path in sorted(set(glob.glob(f"{TOP}/examples/**/*.check", recursive=True)) - set(glob.glob(f"{TOP}/examples/sheets/*"))):
         conditions, litmus = conditions_of(path)
         if set(QUESTIONS) & set(conditions):
             name = f"{os.path.relpath(litmus, TOP)} {' '.join(conditions)}"
