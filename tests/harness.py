@@ -239,7 +239,7 @@ def differs(found: str, wanted: str) -> str:
 
 def unlike(found: object, wanted: object) -> str:
     """That a value is not what is wanted, or nothing."""
-    return "" if found == wanted else f"{found!r}, not {wanted!r}"
+    return "" if found == wanted else f"{found!r:.1000}, not {wanted!r:.1000}"
 
 
 def wrong_end(done: Done, status: int, said: str = "") -> str:
