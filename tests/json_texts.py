@@ -1,4 +1,4 @@
-"""The text report of an object of JSON, for tests/json.py: what stands in the one is what the other says. And where the instructions
+"""The text report of an object of JSON, for tests/json_reports.py: what stands in the one is what the other says. And where the instructions
 stand that an object names."""
 
 from __future__ import annotations
