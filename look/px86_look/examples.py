@@ -12,7 +12,7 @@ from .steps import read_list
 
 # Where examples are: in the repository, or below the folder of an installation.
 PLACES = (os.path.join(TOP, "examples"), os.path.join(TOP, "..", "..", "share", "px86", "examples"))
-FOLDERS = ("guide", "", "every-run", "x86-tso", "persistency", "idioms")
+FOLDERS = ("guide", "sheets", "", "every-run", "x86-tso", "persistency", "idioms")
 # A condition, as the command of a `.check`, or a `.options`, has it.
 CONDITION = re.compile(r'--(all|ends|recovered) "([^"]*)"')
 EMPTY: dict[str, Any] = {"name": "new.litmus", "text": "litmus 1\n", "steps": [], "conditions": {}}

@@ -13,7 +13,7 @@ from typing import Any, NamedTuple
 
 from support import CONDITION, EXAMPLES, Cases, Program, Server, entry_text, read, started, steps_in
 
-FOLDERS = ("guide", "", "every-run", "x86-tso", "persistency", "idioms")
+FOLDERS = ("guide", "sheets", "", "every-run", "x86-tso", "persistency", "idioms")
 BASE = os.path.join(EXAMPLES, "guide", "append-unfenced")
 # What recovery of the append has to find: a tail only with its record.
 RECOVERED = "reg 0 rax = 0 or reg 0 rbx = 11 and reg 0 rcx = 12"
