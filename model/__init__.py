@@ -10,14 +10,15 @@ on standard input.
   tools/schedules-model next FILE [--refused]
   tools/schedules-model images FILE [--count] [--names] [--all COND] [--some COND]
   tools/schedules-model images FILE --set VALUES
-  tools/schedules-model explain FILE [--image VALUES] [--report LINES] [--all COND] [--ends COND] [--recovered COND] [--states N]
+  tools/schedules-model explain FILE [--image VALUES] [--report LINES] [--all COND] [--ends COND] [--recovered COND] [--only NAME] [--states N]
+  tools/schedules-model answer FILE [--only NAME]
   tools/schedules-model law FILE
   tools/schedules-model tally FILE [--all COND] [PLAN]
   tools/schedules-model hunt FILE (--cond COND | --all COND [--lazy] [--explain-image]) [--workers W] [--show] [PLAN]
   tools/schedules-model replay FILE --number K [--lazy] [PLAN]
   tools/schedules-model live FILE [--threads T] [--check REPORT]
   tools/schedules-model check FILE [--all COND] [--ends COND] [--recovered COND] [--images] [--before-crash] [--states N]
-      [--names]
+      [--names] [--only NAME]
   tools/schedules-model fences FILE [--all COND] [--ends COND] [--recovered COND] [--before-crash] [--states N] [--only SITE]
   tools/schedules-model mend FILE [--all COND] [--ends COND] [--recovered COND] [--before-crash] [--states N] [--moves]
   tools/schedules-model outcomes FILE [--recovered] [--states N] [--breaking COND]
@@ -41,7 +42,8 @@ writes the first five words that choose the steps of the schedule of this number
 nothing left out: a state that was met before, counts apart, is not gone through again, and there is no other saving. The
 report of `check` is that of the program without the lines `states` and `steps`. Where a condition fails the program tells
 one state that makes it false, and which one is not said; here there is a line `Q fails V..` for each that may be told. With
-`--states N` more than N of these states, of which the program needs fewer, are R1 TooManyStates. With --breaking COND, which
+`--states N` more than N of these states, of which the program needs fewer, are R1 TooManyStates. Without a condition it answers the
+questions of a sheet, with a line `NAME fails V..` or `NAME found V..` for each that may be told. With --breaking COND, which
 the program does not have, `outcomes` tells those alone that make it false.
 
 `fences` does the same from the opening state of the program, and reads no steps: once for the program as it is, and where its
@@ -54,7 +56,8 @@ first: if it fails with these, none does). Its report is without the count of st
 `explain`, which the program does not have, writes what `check --explain-image` with these conditions says of a run of these steps: of
 each crash, and with `--image` of an image of the state to which they lead. With `--report` it says what is wrong with these lines. Which
 writes are enough alone it finds by closed sets, and then makes every list of steps of all kinds from the crash; where these lead to more
-than 3,000 states, either answer is right.
+than 3,000 states, either answer is right. With --only it is that of a question. `answer`, which the program does not have either, writes
+what is told of each question, or of this one, where a run leads to the state after these steps.
 
 `enumerate` makes every list of Exec and Drain steps from the state to which the steps lead, for small programs: a state
 that was met before is not gone through again, and a program that has states without end is never done. It writes each outcome in which they end, once. Persist and Settle steps

@@ -8,7 +8,7 @@ import io
 import sys
 
 from model.commands import (
-    check, dis, enumerate_, explain, fences, hunt, images, law, live, mend, next_, outcomes, program, replay, run, small, tally, trace, words,
+    answer, check, dis, enumerate_, explain, fences, hunt, images, law, live, mend, next_, outcomes, program, replay, run, small, tally, trace, words,
 )
 from model.compare import COMMANDS, HUNTS, LISTINGS, LISTS, LISTS_BEHIND_FULL, STATES, compare
 from model.every_run import SMALL_PROGRAMS, every_run
@@ -28,13 +28,14 @@ OF_A_FILE = {
     trace: {},
     next_: {"--refused": WORD},
     images: {"--count": WORD, "--names": WORD, "--all": TEXT, "--some": TEXT, "--set": TEXT},
-    explain: {"--image": TEXT, "--report": TEXT} | QUESTIONS,
+    explain: {"--image": TEXT, "--report": TEXT, "--only": TEXT} | QUESTIONS,
     law: {},
     replay: PLAN | {"--lazy": WORD, "--number": {"type": int, "required": True}},
     tally: PLAN | RUNS,
     hunt: PLAN | RUNS | {"--lazy": WORD, "--cond": TEXT, "--workers": TEXT, "--show": WORD, "--explain-image": WORD},
     live: {"--threads": {"type": int, "default": 2}, "--check": TEXT},
-    check: QUESTIONS | {"--images": WORD, "--names": WORD},
+    check: QUESTIONS | {"--images": WORD, "--names": WORD, "--only": TEXT},
+    answer: {"--only": TEXT},
     fences: QUESTIONS | {"--only": TEXT},
     mend: QUESTIONS | {"--moves": WORD},
     outcomes: {"--states": NUMBER, "--recovered": WORD, "--breaking": TEXT},

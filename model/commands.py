@@ -15,13 +15,14 @@ from model.images import candidates_of, closed_sets_of, image_lines, images_of, 
 from model.machine import Machine, Refused, make_all
 from model.mends import mend_told, moved_told
 from model.programs import SHAPES, program_lines, small_lines
+from model.questions import Question, answer_of_state, answers_told
 from model.reading import Fault
 from model.rules import CANDIDATES, Step
 from model.runs import outcomes_of, runs_told, verdict_of
 from model.schedules import ends_of as ends_of_schedules
 from model.schedules import enabled_of, loss_of, outcome_text, possible_of, schedule_of, words_of
 from model.sheets import litmus_of
-from model.texts import step_text
+from model.texts import Program, step_text
 
 
 def run(machine: Machine, steps: list[Step], _: object) -> int:
@@ -291,9 +292,23 @@ def explain(machine: Machine, steps: list[Step], options: Namespace) -> int:
 
 def check(machine: Machine, steps: list[Step], options: Namespace) -> int:
     make_all(machine, steps)
-    lines, status = verdict_of(runs_told(machine, not options.before_crash, options.states), options)
+    runs = runs_told(machine, not options.before_crash, options.states)
+    asks_nothing = (options.all, options.ends, options.recovered, options.images) == (None, None, None, False)
+    lines, status = answers_told(runs, asked_of(machine.program, options.only)) if asks_nothing else verdict_of(runs, options)
     print(*lines, sep="\n")
     return status
+
+
+def answer(machine: Machine, steps: list[Step], options: Namespace) -> int:
+    make_all(machine, steps)
+    told = [answer_of_state(machine, it) for it in asked_of(machine.program, options.only)]
+    print(*filter(None, told), sep="\n")
+    return 0
+
+
+def asked_of(program: Program, only: str | None) -> list[Question]:
+    """The questions of a program, or that of this name."""
+    return [it for it in program.questions if only in (None, it.name)]
 
 
 def fences(machine: Machine, _: object, options: Namespace) -> int:

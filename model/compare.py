@@ -16,6 +16,7 @@ from argparse import Namespace
 from collections.abc import Callable, Collection, Iterable, Iterator, Mapping
 
 from model.commands import hunt, hunt_report, images, listing_of, next_, replay, tally, trace
+from model.conditions import Condition
 from model.effects import LooseMachine, shown_by, told_of
 from model.explanations import explained_image, kinds_explained, lines_with, told_alone
 from model.images import candidates_of, closed_sets_of, images_of, named_images_of, set_text, values_lines, values_of
@@ -267,7 +268,7 @@ def compare_explained(comparison: Comparison, program: Program, steps: list[Step
     lines = explained_image(program, [*steps, *shown], image)
     for kind in kinds_explained(lines):
         comparison.counts[kind] += 1
-    asked_of_all = argparse.Namespace(all=values_condition(program, image), ends=None, recovered=None)
+    asked_of_all = {"all": Condition(values_condition(program, image), program)}
     lines = lines_with(lines, told_alone(program, [*steps, *shown], image, asked_of_all, False, None))
     comparison.ask("explained", "check", [*asked, "--show", "--explain-image"], steps, ran.stdout + "\n".join(lines), 1)
 

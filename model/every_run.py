@@ -348,7 +348,7 @@ class RunComparison(Comparison):
         wrong = "" if (ran.stdout, ran.returncode) == (report, status) else f"status {ran.returncode}, {ran.stderr!r}"
         self.count("check, its states within the limit", wrong, ran.stdout, steps)
         if count > 1:
-            self.ask("a state too many", "check", [*asked, "--states", str(count - 1)], steps, "R1 TooManyStates", 2)
+            self.ask("a state too many", "check", [*asked, "--states", str(count - 1)], steps, "R1 TooManyStates", 5)
 
 
 def asked_of_runs(runs: Runs, options: Namespace) -> tuple[Namespace, list[str]]:

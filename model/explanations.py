@@ -10,6 +10,7 @@ from typing import Any
 from model.conditions import Condition
 from model.images import closed_sets_of, leaves_first, size_of
 from model.machine import Machine, make_all
+from model.questions import kept_by
 from model.rules import Entry, Image, Step, keeps, line_of_entry
 from model.runs import NoRoom, Runs, TooManyStates
 from model.texts import Program, lines_of
@@ -209,23 +210,31 @@ def with_write(machine: Machine, p: int, buffered: bool, place: int) -> Machine 
     return machine
 
 
-def keeps_behind(machine: Machine, options: Namespace, most: int | None) -> bool | None:
+def asked_by(program: Program, options: Namespace) -> dict[str, Any]:
+    """What is asked of each state of a kind: by conditions, or by the question of this name."""
+    only = getattr(options, "only", None)
+    if only is None:
+        texts = {kind: getattr(options, kind) for kind in ("all", "ends", "recovered")}
+        return {kind: Condition(text, program) for kind, text in texts.items() if text is not None}
+    kinds = {"crash": "all", "end": "ends", "recovery": "recovered"}
+    return {kinds[it.place]: kept_by(it) for it in program.questions if it.name == only}
+
+
+def keeps_behind(machine: Machine, asked: dict[str, Any], most: int | None) -> bool | None:
     """Whether every run from a crash of this machine keeps what is asked; None where that takes too many states, or room is
     missing."""
     machine.step(("crash",))
-    program = machine.program
     try:
         runs = Runs(machine, True, most)
     except (TooManyStates, NoRoom):
         return None
-    if options.all is not None and runs.broken_images(Condition(options.all, program)):
+    if "all" in asked and runs.broken_images(asked["all"]):
         return False
-    asked = [(text, after) for text, after in ((options.ends, False), (options.recovered, True)) if text is not None]
-    return not any(runs.false_ends(Condition(text, program), after) for text, after in asked)
+    return not any(kind in asked and runs.false_ends(asked[kind], kind == "recovered") for kind in ("ends", "recovered"))
 
 
 def told_alone(
-    program: Program, steps: list[Step], image: Image, options: Namespace, crashed: bool, most: int | None
+    program: Program, steps: list[Step], image: Image, asked: dict[str, Any], crashed: bool, most: int | None
 ) -> list[bool | None]:
     """Of each write that is missing in an image whether it alone is enough: had it persisted too, what is asked would hold from there.
     None where that is not known."""
@@ -252,9 +261,9 @@ def told_alone(
         if machine is None:
             told.append(False)
         elif crashed:
-            told.append(keeps_behind(machine, options, most))
+            told.append(keeps_behind(machine, asked, most))
         else:
-            told.append(Condition(options.all, program).holds(machine))
+            told.append(asked["all"].holds(machine))
     return told
 
 
@@ -280,16 +289,17 @@ def explanations_of(
     most = STATES_BEHIND_A_WRITE
     if options.states is not None:
         most = min(most, options.states)
+    asked = asked_by(program, options)
     for at, step in enumerate(run):
         if step == ("crash",):
             made = [*steps, *run[:at]]
             left = make_all(Machine(program), made).persisted
             values = tuple(left[word] for word in sorted(program.names))
-            told = told_alone(program, made, values, options, True, most)
+            told = told_alone(program, made, values, asked, True, most)
             yield [[f"crash {at}", *lines] for lines in may_be_told(explained_image(program, made, values), told)]
     if image is not None:
         made = [*steps, *run]
-        yield may_be_told(explained_image(program, made, image), told_alone(program, made, image, options, False, most))
+        yield may_be_told(explained_image(program, made, image), told_alone(program, made, image, asked, False, most))
 
 
 def may_be_told(lines: list[str], told: list[bool | None]) -> list[list[str]]:

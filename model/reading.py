@@ -33,12 +33,13 @@ def is_text(line: bytes) -> bool:
     return all(byte in b" \t\r" or 0x21 <= byte <= 0x7E for byte in line)
 
 
-def tokens_of(line: bytes) -> list[str]:
+def tokens_of(line: bytes, marks: str = MARKS) -> list[str]:
+    """The tokens of a line: each of these marks, and each run of other characters."""
     tokens = []
     for word in line.decode("ascii").split("#")[0].split():
         run = ""
         for character in word:
-            if character in MARKS:
+            if character in marks:
                 tokens += [run, character] if run else [character]
                 run = ""
             else:
@@ -242,6 +243,8 @@ class LitmusReader:
         """What the text says."""
         lines = lines_of(data)
         for number, line in enumerate(lines, 1):
+            if self.keeps(number, line):
+                continue
             if not is_text(line):
                 raise Fault(f"X7 NotAscii line {number}")
             tokens = tokens_of(line)
@@ -251,6 +254,10 @@ class LitmusReader:
             raise Fault(f"X6 MissingEnd line {max(len(lines), 1)}")
         self.litmus.processors = [(self.resolved(main), self.resolved(recovery)) for main, recovery in self.all]
         return self.litmus
+
+    def keeps(self, _number: int, _line: bytes) -> bool:
+        """Whether a line is kept, to be read behind the others."""
+        return False
 
     def read_line(self, number: int, tokens: list[str]) -> None:
         """Reads a line that has tokens."""

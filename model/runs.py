@@ -184,4 +184,4 @@ def runs_told(machine: Machine, crashes: bool, most: int | None) -> Runs:
     except NoRoom:
         fault = "R2 NoRoom"
     print(f"px86: {fault}", file=sys.stderr)
-    raise SystemExit(2)
+    raise SystemExit(5)

@@ -1,7 +1,10 @@
-"""Sheets, with their faults: litmus texts with abbreviations, of which each line says lines of a litmus text."""
+"""Sheets, with their faults: litmus texts with abbreviations, of which each line says lines of a litmus text; and their questions."""
 
 from __future__ import annotations
 
+import re
+
+from model.questions import BEGINS, Question, QuestionsReader
 from model.reading import (
     DIGITS, MOST_PROCESSORS, LineReader, Litmus, LitmusReader, is_meant_as_number, is_text, lines_of, number_of, small_number_of, tokens_of,
 )
@@ -14,6 +17,12 @@ UPPER, MOST_COPIES, MOST_NUMBERED = "ABCDEFGHIJKLMNOPQRSTUVWXYZ", 64, 8
 def is_constant(token: str) -> bool:
     """Whether this is spelled as a constant."""
     return token[0] in UPPER and len(token) <= 16 and all(it in UPPER + DIGITS + "_" for it in token)
+
+
+def first_token(line: bytes) -> str:
+    """The first token of a line, of which not all bytes may be allowed; nothing where it has none, or a mark."""
+    token = re.match(rb"[ \t\r]*([^ \t\r,\[\]:#]*)", line)
+    return token[1].decode("latin-1") if token else ""
 
 
 def is_label_line(tokens: list[str]) -> bool:
@@ -46,6 +55,22 @@ class SheetReader(LitmusReader):
         super().__init__()
         self.constants: dict[str, int] = {}
         self.cpu: Cpu | None = None
+        # The lines from the first question on, and what they ask.
+        self.kept: list[tuple[int, bytes]] = []
+        self.questions: list[Question] = []
+
+    def read_all(self, data: bytes) -> Litmus:
+        """What the sheet says. The faults of its questions come behind those of its program."""
+        litmus = super().read_all(data)
+        self.questions = QuestionsReader(self.kept, self.names, self.constants, len(self.all)).read_all()
+        return litmus
+
+    def keeps(self, number: int, line: bytes) -> bool:
+        """Behind a block questions may begin; all that follows is of them."""
+        if not self.kept and (self.cpu or not self.all or first_token(line) not in BEGINS):
+            return False
+        self.kept.append((number, line))
+        return True
 
     def says(self, number: int, *tokens: str) -> None:
         """This line of a litmus text is what is said."""
@@ -212,4 +237,5 @@ def program_of(text: str) -> Program:
     reader = SheetReader()
     program = Program(reader.read_all(data).written().decode("ascii"))
     program.sheet_lines = [{"main": main.lines, "recover": recovery.lines} for main, recovery in reader.all]
+    program.questions = reader.questions
     return program

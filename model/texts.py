@@ -4,7 +4,8 @@ from __future__ import annotations
 
 import copy
 import re
-from collections.abc import Iterator
+from collections.abc import Iterator, Sequence
+from typing import Any
 
 from model.rules import FIRST_ADDRESS, JUMPS, REGISTERS, Instruction, Operand, Step
 
@@ -28,6 +29,8 @@ class Program:
 
     # Of each processor, and each of its two programs, the lines of the sheet on which its instructions stand, if one says the text.
     sheet_lines: list[dict[str, list[int]]] | None = None
+    # What the sheet asks.
+    questions: Sequence[Any] = ()
 
     def __init__(self, text: str) -> None:
         self.text = text

@@ -21,7 +21,7 @@ from tests.harness import CORES, TOP, Case, run_parts
 
 # In the order in which they begin: those that take long come first.
 PARTS = """
-model every-run mend look json-reports release install schedules gallery failing-devices streams conversation sheets texts broken-bytes program
+model every-run mend look json-reports release install schedules gallery failing-devices streams conversation sheets questions texts broken-bytes program
 objects picture documents editors from-help view-changes-nothing unproved wrong-bodies
 """.split()
 

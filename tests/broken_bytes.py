@@ -1,8 +1,8 @@
 """Gives the program as it is built broken bytes, and wants the very answer that docs/FORMATS.md says of them:
 
   objects     cut at each byte, and with each bit changed
-  programs    litmus texts and a sheet, cut at each byte, and with each byte replaced by each of `\\0`, space, `(`, `9`, `z` and
-              `\\x80`; of the sheet also by each of `$`, `&`, `*` and `K`
+  programs    litmus texts and sheets, cut at each byte, and with each byte replaced by each of `\\0`, space, `(`, `9`, `z` and
+              `\\x80`; of a sheet also by each of `$`, `&`, `*` and `K`, and of one with questions by `&`, `a`, `[` and `-`
   steps, scripts and conditions, the same (no word of a command line holds `\\0`)
 
 What is wanted is told by readers that stand here and in model/, which were written from docs/FORMATS.md alone, and by the machine
@@ -30,7 +30,7 @@ from model.sheets import litmus_of
 from model.texts import Program
 from tests.harness import Case, Checks, Px86, unlike
 
-AT_LEAST = {"": 9494, "the sheet, ": 2208}
+AT_LEAST = {"": 11376, "the sheet, ": 2208, "the questions, ": 1882}
 NEEDS_PROGRAM = True
 REPLACED = b"\0 (9z\x80"
 
@@ -634,6 +634,17 @@ cmp rcx, K
 end
 """
 
+# Each form of a question.
+ASKED = b"""sheet 1
+line x y
+cpu
+end
+let a = &x + 8
+let b = persisted [a] - 3
+every crash c: not (b < 0 or reg 0 rax = 0x1) -> coherent y != 1
+some end d: c and b + 3 >= persisted [a] # d
+"""
+
 FIRST = b"litmus 1\nline x\ncpu\nmov [x], 1\nclflush [x]\nsfence\nend\n"
 
 # What steps, scripts and conditions are of.
@@ -784,6 +795,8 @@ def cases_of_texts() -> Iterator[Case]:
             yield Case(f"{title}, {name}", answered, functools.partial(written, changed), ["dis"], changed)
     for name, changed in [*cuts_of(SHEET), *replacements_of(SHEET, REPLACED + b"$&*K")]:
         yield Case(f"the sheet, {name}", answered, functools.partial(written, changed), ["dis"], changed)
+    for name, changed in [*cuts_of(ASKED), *replacements_of(ASKED, REPLACED + b"&a[-")]:
+        yield Case(f"the questions, {name}", answered, functools.partial(written, changed), ["dis"], changed)
 
 
 def cases_of_steps() -> Iterator[Case]:

@@ -16,7 +16,7 @@ from typing import Any
 
 from tests.harness import TOP, Case, Checks, Px86, absent, read, run, unlike
 
-AT_LEAST = {"": 486}
+AT_LEAST = {"": 526}
 NEEDS_PROGRAM = False
 GRAMMAR = f"{TOP}/tools/editors/px86.tmLanguage.json"
 VIM_SYNTAX = f"{TOP}/tools/editors/syntax.vim"
@@ -37,6 +37,10 @@ SCOPES = {
     "constant.other.named": "Constant",
     "constant.other.address": "Address",
     "keyword.operator.copies": "Copies",
+    "keyword.operator.comparison": "Operation",
+    "keyword.control.question": "Question",
+    "storage.type.place": "Place",
+    "keyword.other.asked": "Asked",
     "variable.other.word": "Word",
 }
 # Each line, and what its tokens are, as docs/FORMATS.md says. Marks are nothing.
@@ -95,6 +99,15 @@ SORTED = [
     ("l$_$:", "Label"),
     ("jnz l$_$", "Jump Target"),
     ("recover 1", "Section Number"),
+    # Lines of questions. Round brackets are marks too.
+    ("every crash kept: persisted tail = 1 -> persisted a != 11", "Question Place Word Asked Word Operation Number Operation Asked Word Operation Number"),
+    ("some end other_order: coherent [&node + 8] = &n0_val # one", "Question Place Word Asked Address Operation Number Operation Address Comment Comment"),
+    ("  every recovery end : (reg 0 rax <= K)", "Question Place Word Asked Number Register Operation Constant"),
+    ("let less = persisted b - persisted a - -5", "Question Word Operation Asked Word Operation Asked Word Operation Number"),
+    ("    not (kept or old) and persisted [first + NEXT] >= 0x5", "Asked Word Asked Word Asked Asked Word Operation Constant Operation Number"),
+    ("every", "Question"),
+    ("lets = somewhat", "Word Operation Word"),
+    ("let : # a label", "Label Comment Comment Comment"),
 ]
 
 # --- tokens
@@ -103,7 +116,7 @@ SORTED = [
 def at_tokens(line: str, kinds: list[str]) -> list[str]:
     """What the tokens of a line are, but for the marks, where `kinds` says it of each place. One that is more than one thing is
     `mixed`."""
-    sets = [set(kinds[it.start() : it.end()]) for it in re.finditer(r"#|[^\s,\[\]:#]+", line)]
+    sets = [set(kinds[it.start() : it.end()]) for it in re.finditer(r"#|[^\s,\[\]:#()]+", line)]
     return [it.pop() if len(it) == 1 else "mixed" for it in sets]
 
 

@@ -76,8 +76,8 @@ def index(_: Px86) -> Checks:
     texts = [path.removesuffix(".litmus") for path in files_of(FOLDERS[2:], "litmus")]
     names = {f"{path.removeprefix('examples/')}.litmus" for path in texts}
     rows = set(re.findall(r"^\| `((?:every-run|sheets)/[^`]*)` \|", read("examples/README.md"), re.M))
-    asked = [path for path in texts if not os.path.exists(f"{path}.check")]
-    yield "", unlike(sorted(names), sorted(rows)) or unlike(asked, [])
+    unasked = [path for path in texts if not any(os.path.exists(f"{path}.{kind}") for kind in ("check", "asked"))]
+    yield "", unlike(sorted(names), sorted(rows)) or unlike(unasked, [])
 
 
 # --- where a hunt finds something, check does, and behind the steps of the hunt too
@@ -154,10 +154,10 @@ ASKED = [
     ("few lines are asked: it holds", 0, "all holds", ["--before-crash", "--all", "persisted a = 0 or persisted b = 1"]),
     ("few lines are asked: the least image of all lines", 1, f"all fails 1 1 3 0{ZEROS}", ["--before-crash", "--all", "persisted a = 0"]),
     ("the last line is asked: the least image of all lines", 1, f"all fails 0 0 3{ZEROS} 1", ["--before-crash", "--all", "persisted w16 = 0"]),
-    ("all lines are asked", 2, "px86: I1 TooMany", ["--before-crash", "--all", f"persisted a < 2{ALL_LINES}"]),
-    ("runs crash: all lines count", 2, "px86: I1 TooMany", ["--all", "persisted a = 0 or persisted b = 1"]),
+    ("all lines are asked", 5, "px86: I1 TooMany", ["--before-crash", "--all", f"persisted a < 2{ALL_LINES}"]),
+    ("runs crash: all lines count", 5, "px86: I1 TooMany", ["--all", "persisted a = 0 or persisted b = 1"]),
     (
-        *("the images are asked for: all lines count", 2, "px86: I1 TooMany"),
+        *("the images are asked for: all lines count", 5, "px86: I1 TooMany"),
         ["--before-crash", "--images", "--all", "persisted a = 0 or persisted b = 1"],
     ),
 ]

@@ -21,6 +21,8 @@ import shlex
 from collections.abc import Callable, Iterator, Sequence
 from typing import Any
 
+from model.rules import FIRST_ADDRESS
+from model.sheets import program_of
 from tests import json_texts as texts
 from tests.harness import TOP, Case, Checks, Done, Px86, commands_of, read, unlike, with_needs, wrong_end
 from tests.texts import FILES, rows_of_rows
@@ -48,9 +50,10 @@ class Asked:
         self.px86, self.words, self.text, self.steps = px86, list(words), text, steps
 
     def ends(self, words: Sequence[str], steps: bytes, text: bytes | None = None) -> Done:
-        """Runs the program with these words on the text, or on another one, and these steps."""
+        """Runs the program with these words on the text, or on another one, and these steps; or a file of them, if it is called `steps`."""
         path = self.px86.keep("text", self.text if text is None else text)
-        return self.px86(*words, path, given=steps, most=300)
+        named = [self.px86.keep("steps", steps) if before == "--steps" else word for before, word in zip(["", *words], words)]
+        return self.px86(*named, path, given=steps, most=300)
 
     def told(self, words: str, steps: bytes) -> Any:
         """The object of these words and `--json`."""
@@ -336,6 +339,11 @@ def check_needs(it: Asked, said: Any) -> None:
                 text = changed
 
 
+def addresses_of(text: bytes) -> dict[int, str]:
+    """What is told in the place of each address of a word of a sheet."""
+    return {FIRST_ADDRESS + 8 * word: f"&{name}" for name, word in program_of(text.decode()).words.items()}
+
+
 # --- what is asked of each case
 
 # What is asked of a command's object, beside its text.
@@ -352,6 +360,12 @@ def rebuilt(it: Asked, line: str) -> str:
     """The text of the object in this line, of which all else is asked."""
     command = it.words[0]
     said = texts.object_of(line, command)
+    if "questions" in said:
+        given = it.steps if "--steps" in it.words else b""
+        said["addresses"] = addresses_of(it.text) if said["questions"] else {}
+        for q in (q for q in said["questions"] if q["steps"] is not None):
+            if q["lines"] != lines_traced(it, q["steps"], given):
+                raise Wrong(f"lines {q['lines']} of the steps of {q['name']}")
     if "set" in said:
         # The object of a set has no words: whoever asks has them.
         said["words"] = [word["word"] for word in it.state_after(it.steps)["words"]]
@@ -359,7 +373,7 @@ def rebuilt(it: Asked, line: str) -> str:
     texts.check_lines(said, it.text, it.state_after(it.steps) if command in ("next", "trace") else None)
     if command in CHECKS:
         CHECKS[command](it, said)
-    if has_found(said):
+    if has_found(said) and "questions" not in said:
         check_steps(it, said)
     if command == "fences" and said["holds"]:
         check_needs(it, said)
@@ -519,6 +533,8 @@ def shows_of(name: str, words: list[str]) -> list[list[str]]:
     """What else is asked for beside these words. The gallery is large: there it is all at once."""
     if words[0] not in ("check", "hunt"):
         return [[]]
+    if not {"--all", "--ends", "--recovered", "--cond"} & {*words}:
+        return [[], ["--show", "--explain-image"], ["--explain-image"]]
     if "/" in name:
         return [[it for it in ("--show", "--names") if it not in words]]
     return [it for it in ([], ["--show"], ["--names"], ["--as-steps"]) if not set(it) & set(words)]
@@ -526,7 +542,7 @@ def shows_of(name: str, words: list[str]) -> list[list[str]]:
 
 def example_words() -> Given:
     """The commands of the examples that explore every run, or run schedules: at most 1,000 of these."""
-    for kind in "check", "outcomes", "replay", "tally", "hunt", "fences", "mend":
+    for kind in "check", "asked", "outcomes", "replay", "tally", "hunt", "fences", "mend":
         for name, path in example_files(kind):
             words = shlex.split(read(path).partition("\n")[0])[1:]
             if words[0] not in COMMANDS:

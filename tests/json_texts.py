@@ -302,7 +302,37 @@ def explained(o: Any, image: Any) -> Lines:
         raise ValueError("writes that are missing in no image")
 
 
+def question(o: Any, q: Any, options: Sequence[str]) -> Lines:
+    """The answer to a question of a sheet. `addresses` has the names of words by their addresses."""
+    is_run, is_told = q["answer"] in ("fails", "found"), {(part in q and q[part] is not None) for part in ("values", "steps", "lines")}
+    if is_told != {is_run} or q["answer"] in (("found", "none") if q["every"] else ("holds", "fails")):
+        raise ValueError(f"a part of an answer: {q}")
+    if q["explained"] is not None and not (is_run and "--explain-image" in options):
+        raise ValueError("an explanation that is not asked for")
+    named = zip(o["words"], q["values"] or [], strict=is_run)
+    told = [f"{name}={o['addresses'].get(value, value)}" for name, value in named]
+    yield " ".join([q["name"], q["answer"], *told])
+    if is_run and {"--show", "--explain-image"} & {*options}:
+        yield f"steps {len(q['steps'])}"
+        yield from q["steps"] if "--show" in options else []
+        yield from explained({**o, **q}, q["values"] if q["place"] == "crash" else None)
+
+
+def questions(o: Any, options: Sequence[str]) -> Lines:
+    """The answers to the questions of a sheet."""
+    good = [q["answer"] in ("holds", "found", "not asked") for q in o["questions"]]
+    if o["holds"] != (bool(good) and all(good)):
+        raise ValueError("whether all is good")
+    if not o["questions"]:
+        yield "nothing asked"
+    for q in o["questions"]:
+        yield from question(o, q, options)
+
+
 def check(o: Any, options: Sequence[str]) -> Lines:
+    if "questions" in o:
+        yield from questions(o, options)
+        return
     if not o["holds"]:
         if "--as-steps" not in options:
             if "--names" in options:
@@ -527,7 +557,7 @@ def sites(o: Any, state: Any) -> Iterator[tuple[Any, Any]]:
     steps ends."""
     for c in (c for it in (o, *o.get("replies", [])) for c in (it.get("state") or {}).get("cpus", [])):
         yield c, c
-    for n in [*o.get("never_ran", []), *explained_sites(o.get("explained"))]:
+    for n in [*o.get("never_ran", []), *(it for part in (o, *o.get("questions", [])) for it in explained_sites(part.get("explained")))]:
         yield n, n
     for r in [*o.get("put", []), *(r for e in o.get("open", []) for r in e["put"])]:
         yield r["site"], r["site"]

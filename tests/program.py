@@ -180,7 +180,7 @@ def too_many(px86: Px86, words: str) -> Checks:
         wrong = unlike(json.loads(rest.removeprefix(told[0] if told else ""))["fault"]["number"], "R1")
     else:
         wrong = differs(rest, "px86: R1 TooManyStates\n")
-    wrong = wrong or unlike((done.status, done.out), (2, ""))
+    wrong = wrong or unlike((done.status, done.out), (5, ""))
     yield "", wrong or ("" if found > 2 and 1 <= explored < found else f"{found} states were found and {explored} explored")
 
 

@@ -7,6 +7,7 @@ syntax case match
 " In a sheet `$` is a part of names and numbers.
 syntax iskeyword @,48-57,_,$
 " Of two that begin at one place the later counts, and a keyword before both.
+syntax match px86Operation /->\|[=!<>]=\|[=<>+-]/
 syntax match px86Word /\<[a-z][a-z0-9_$]*\>/
 syntax match px86Number /-\=\<[0-9$]\+\>/
 syntax match px86Number /\<0x[0-9A-Fa-f$]\+\>/
@@ -22,6 +23,11 @@ syntax match px86Order /^\s*\zs\%(mfence\|sfence\|clflush\|clflushopt\|clwb\)\>/
 syntax match px86Jump /^\s*\zs\%(jmp\|jz\|jnz\)\>/ nextgroup=px86Target skipwhite
 syntax match px86Target /[a-z][a-z0-9_$]*/ contained
 syntax match px86Label /^\s*\zs[a-z][a-z0-9_$]*\ze\s*:/
+syntax match px86Question /^\s*\zs\%(every\|some\)\>/ nextgroup=px86Place skipwhite
+syntax match px86Question /^\s*\zslet\>/
+syntax match px86Place /\%(crash\|end\|recovery\)\>/ contained
+syntax match px86Label /^\s*\zs\%(let\|every\|some\)\ze\s*:/
+syntax keyword px86Asked persisted coherent reg not and or
 syntax keyword px86Register rax rcx rdx rbx rsi rdi r8 r9
 syntax match px86Comment /#.*/ contains=@Spell
 
@@ -30,6 +36,10 @@ highlight default link px86Number Number
 highlight default link px86Constant Number
 highlight default link px86Address Number
 highlight default link px86Copies Operator
+highlight default link px86Operation Operator
+highlight default link px86Question Structure
+highlight default link px86Place Type
+highlight default link px86Asked Keyword
 highlight default link px86Section Structure
 highlight default link px86Memory Type
 highlight default link px86Header PreProc

@@ -14,9 +14,9 @@ use Rattle.litmus_text.specs.Grammar.{IsText}
 use Rattle.litmus_text.specs.Rows.{has_tokens, rows_of}
 use Rattle.litmus_text.specs.Texts.{litmus_of}
 use Rattle.commands.specs.declared.fault.Refused.TheVariants as refusals
-use Rattle.commands.specs.Programs.{is_object_file, program_of, text_program_of}
+use Rattle.commands.specs.Programs.{HasGoodQuestions, is_object_file, program_of, text_program_of}
+use Rattle.commands.proofs.AskedSheets.{sheet_tells, sheet_told}
 use Rattle.sheets.specs.Reading.{are_of_sheet, is_sheet, litmus_said}
-use Rattle.sheets.proofs.ToldLines.{object_is_said}
 
 -- the first of these begins with P
 record BeginsWithP (texts : List (List ℕ)) : Type 0 where
@@ -104,10 +104,10 @@ text_is_program bytes o text read = elim (cases_Bool (is_object_file bytes)) [
 ]
 
 -- a sheet is read as a sheet
-pub sheet_is_program : (bytes : List ℕ) (o : Object) → is_sheet bytes ≡ true → litmus_of (litmus_said bytes) ≡ Ok o → program_of bytes ≡ Ok o
-sheet_is_program bytes o is read = elim (cases_Bool (is_object_file bytes)) [
+pub sheet_is_program : (bytes : List ℕ) (o : Object) → is_sheet bytes ≡ true → litmus_of (litmus_said bytes) ≡ Ok o → HasGoodQuestions bytes → program_of bytes ≡ Ok o
+sheet_is_program bytes o is read good = elim (cases_Bool (is_object_file bytes)) [
   | inl object ↦ let none = object_is_no_sheet bytes object in absurd (let both : true ≡ false = sym is ∙ none in cc)
-  | inr other ↦ rw (other, is, read) refl
+  | inr other ↦ rw (other, is, sheet_tells bytes o read good) refl
 ]
 
 -- an object is read as an object
@@ -116,14 +116,16 @@ object_is_program One o read = rw read refl
 object_is_program Two o read = rw read refl
 
 -- and no other file is a program
-text_program_is : (bytes : List ℕ) (o : Object) → text_program_of bytes ≡ Ok o → (litmus_of bytes ≡ Ok o) ⊎ ((is_sheet bytes ≡ true) × (litmus_of (litmus_said bytes) ≡ Ok o))
+abbrev IsReadSheet : List ℕ → Object → Type 0
+IsReadSheet bytes o = (is_sheet bytes ≡ true) × (litmus_of (litmus_said bytes) ≡ Ok o) × HasGoodQuestions bytes
+
+text_program_is : (bytes : List ℕ) (o : Object) → text_program_of bytes ≡ Ok o → (litmus_of bytes ≡ Ok o) ⊎ IsReadSheet bytes o
 text_program_is bytes o is = elim (cases_Bool (is_sheet bytes)) [
-  | inl sheet ↦ inr (sheet, object_is_said bytes o (rw sheet at is))
+  | inl sheet ↦ let told = sheet_told bytes o (rw sheet at is) in inr (sheet, told.0, told.1)
   | inr plain ↦ inl (rw plain at is)
 ]
 
-pub program_is : (bytes : List ℕ) (o : Object) → program_of bytes ≡ Ok o
-    → (object_of bytes ≡ Ok o) ⊎ ((litmus_of bytes ≡ Ok o) ⊎ ((is_sheet bytes ≡ true) × (litmus_of (litmus_said bytes) ≡ Ok o)))
+pub program_is : (bytes : List ℕ) (o : Object) → program_of bytes ≡ Ok o → (object_of bytes ≡ Ok o) ⊎ ((litmus_of bytes ≡ Ok o) ⊎ IsReadSheet bytes o)
 program_is bytes o is = elim (cases_Bool (is_object_file bytes)) [
   | inl object ↦ inl (refused_as_ok (λ fault. refusals.Object fault) (object_of bytes) o (rw object at is))
   | inr other ↦ inr (text_program_is bytes o (refused_as_ok (λ fault. refusals.Text fault) (text_program_of bytes) o (rw other at is)))

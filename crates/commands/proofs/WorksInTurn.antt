@@ -1,10 +1,10 @@
 -- What is made of one part of a work, and of the next.
-use Rattle.std.proofs.Common.{Result, Ok, Err, refl, inl, inr, ◌≡◌}
+use Rattle.std.proofs.Common.{Result, Ok, Err, refl}
 use Rattle.std.proofs.lemmas.List.Elements.{Contains-append_left, Contains-append_right}
 use Rattle.commands.specs.declared.fault.Fault.{Fault}
 use Rattle.commands.specs.declared.fault.Fault.TheVariants as faults
 use Rattle.commands.specs.Faults.{stage_of}
-use Rattle.commands.specs.Works.{and_then, Makes, MakesThen, Work, done, reached_after, told_after}
+use Rattle.commands.specs.Works.{and_then, Makes, Work, done, reached_after}
 
 -- a fault of the first part is one of both
 pub made_first : {A B : Type 0} (first : Work A) (rest : A → Work B) (fault : Fault) → Makes first (Err fault) → Makes (and_then first rest) (Err fault)

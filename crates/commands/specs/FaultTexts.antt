@@ -37,6 +37,7 @@ refused_text (refusals.Step refusal accepted) = refusal_text refusal ++ codes " 
 refused_text refusals.TooManyImages = codes "I1 TooMany"
 refused_text refusals.TooManyStates = codes "R1 TooManyStates"
 refused_text refusals.NoRoom = codes "R2 NoRoom"
+refused_text refusals.TooManyInRun = codes "I1 TooMany"
 
 -- a stage of which something is missing
 abbrev pub stage_text : Stage → List ℕ

@@ -1,5 +1,5 @@
 -- What a program file, a condition and a list of steps say, and the state to which the steps lead.
-use Rattle.std.specs.Prelude.{◌≡◌, ℕ, Bool, true, if◌then◌else◌, Option, Some, None, Result, Ok, Err, List, nat_eq, codes}
+use Rattle.std.specs.Prelude.{◌≡◌, ℕ, Bool, true, if◌then◌else◌, Option, Some, None, Result, Ok, Err, List, [], IsOk, nat_eq, codes}
 use Rattle.std.specs.List.{starts_with}
 use Rattle.outcomes.specs.Outcomes.{refused_as}
 use Rattle.text_tokens.specs.Text.{lines_of}
@@ -14,7 +14,9 @@ use Rattle.litmus_text.specs.LinedObjects.{lined_of}
 use Rattle.litmus_text.specs.SourceLines.{lines_found}
 use Rattle.litmus_text.specs.TextLines.{TextLines}
 use Rattle.litmus_text.specs.Texts.{litmus_of}
-use Rattle.sheets.specs.Reading.{is_sheet, lines_of_sheet, litmus_said, object_of_sheet, sheet_of}
+use Rattle.questions.specs.Questions.{NamedQuestion, Questioned}
+use Rattle.questions.specs.Reading.{questioned_of, questions_of}
+use Rattle.sheets.specs.Reading.{is_sheet, lines_of_sheet, litmus_said}
 use Rattle.isa.specs.Objects as programs
 use Rattle.machine.specs.declared.refusal.Refusal.{Refusal}
 use Rattle.machine.specs.declared.step.Step.{Step}
@@ -35,9 +37,14 @@ is_object_file bytes = starts_with nat_eq bytes (codes "PX86OBJ")
 abbrev pub program_stage : List ℕ → Stage
 program_stage bytes = if is_object_file bytes then stages.Object else stages.Text
 
--- the program that a text says, as a sheet or as a litmus text
+-- the program of a sheet whose questions are read too
+abbrev pub program_told : Result Questioned TextFault → Result programs.Object TextFault
+program_told (Ok asked) = Ok asked.lined.object
+program_told (Err fault) = Err fault
+
+-- the program that a text says, as a sheet with its questions or as a litmus text
 abbrev pub text_program_of : List ℕ → Result programs.Object TextFault
-text_program_of bytes = if is_sheet bytes then object_of_sheet bytes else litmus_of bytes
+text_program_of bytes = if is_sheet bytes then program_told (questioned_of bytes) else litmus_of bytes
 
 -- the program that a file says, as an object file or as a text
 abbrev pub program_of : List ℕ → Result programs.Object Refused
@@ -56,15 +63,39 @@ lines_in_text bytes = if is_sheet bytes then lines_of_sheet bytes else Some (lin
 abbrev pub lines_in_file : List ℕ → TextLines
 lines_in_file bytes = if is_object_file bytes then None else lines_in_text bytes
 
--- the program that a text says with these lines, or its fault
-abbrev pub lined_text_of : List ℕ → Result LinedObject TextFault
-lined_text_of bytes = if is_sheet bytes then sheet_of bytes else lined_of bytes
+-- what a text says that asks nothing
+abbrev pub unasked : Result LinedObject TextFault → Result Questioned TextFault
+unasked (Ok lined) = Ok (record { lined = lined; questions = [] })
+unasked (Err fault) = Err fault
+
+-- what a text says with its questions, or its fault: a sheet alone has questions
+abbrev pub asked_text_of : List ℕ → Result Questioned TextFault
+asked_text_of bytes = if is_sheet bytes then questioned_of bytes else unasked (lined_of bytes)
 
 -- the program that a file says, with these lines
 abbrev pub lined_work : List ℕ → Work LinedObject
 lined_work bytes = do
   object ← program_work bytes
   done (record { object = object; lines = lines_in_file bytes })
+
+-- the questions that are read
+abbrev pub questions_told : Result (List NamedQuestion) TextFault → List NamedQuestion
+questions_told (Ok questions) = questions
+questions_told (Err fault) = []
+
+-- the questions of a text
+abbrev pub questions_in_text : List ℕ → List NamedQuestion
+questions_in_text bytes = if is_sheet bytes then questions_told (questions_of bytes) else []
+
+-- the questions of a program file, where it is a text
+abbrev pub questions_in_file : List ℕ → List NamedQuestion
+questions_in_file bytes = if is_object_file bytes then [] else questions_in_text bytes
+
+-- the program that a file says, with its lines and its questions
+abbrev pub questioned_work : List ℕ → Work Questioned
+questioned_work bytes = do
+  lined ← lined_work bytes
+  done (record { lined = lined; questions = questions_in_file bytes })
 
 -- a condition, read by the names of a layout
 abbrev pub condition_work : NamedLines → List ℕ → Work Formula
@@ -94,6 +125,10 @@ state_after end = unless_refused end.refusal end.accepted end.state
 abbrev pub state_work : End → Work State
 state_work end = work stages.Machine (state_after end)
 
--- a sheet whose lines say the lines of a text of this value
+-- The questions of a sheet are read: none has a fault.
+abbrev pub HasGoodQuestions : List ℕ → Type 0
+HasGoodQuestions bytes = IsOk (questions_of bytes)
+
+-- a sheet whose lines say the lines of a text of this value, and whose questions are good
 abbrev pub IsSheetOf : programs.Object → List ℕ → Type 0
-IsSheetOf object bytes = (is_sheet bytes ≡ true) × IsText (lines_of (litmus_said bytes)) object
+IsSheetOf object bytes = (is_sheet bytes ≡ true) × IsText (lines_of (litmus_said bytes)) object × HasGoodQuestions bytes

@@ -2,7 +2,7 @@
 ghost use Rattle.std.specs.Prelude.{◌≡◌, Some};
 ghost use Rattle.commands.specs.FaultTexts.{device_text, fault_text, missing_text, refused_text, stage_text};
 ghost use Rattle.commands.specs.Faults.{fault_at, missing};
-ghost use Rattle.commands.specs.Statuses.{exit_after};
+ghost use Rattle.commands.specs.Statuses.{exit_after, is_untold};
 
 use crate::script_fault::ScriptFault;
 use images::CondFault;
@@ -62,6 +62,8 @@ pub enum Refused {
     TooManyStates,
     /// R2: in some run the pending list has no room for what a processor is to add to it.
     NoRoom,
+    /// I1: where images are looked at, some run leads to a state with more candidates for them than are counted.
+    TooManyInRun,
 }
 
 /// What is missing.
@@ -119,13 +121,27 @@ impl Stage {
     }
 }
 
+impl Refused {
+    /// Whether nothing is wrong with what was given, but it cannot be told of all runs: there are too many states, no room for
+    /// what is pending, or too many candidates.
+    pub fn is_untold(self) -> bool
+        ensures { result ≡ is_untold self }
+    {
+        match self {
+            Refused::TooManyStates | Refused::NoRoom | Refused::TooManyInRun => true,
+            _ => false,
+        }
+    }
+}
+
 impl Fault {
     /// The exit status of the program: 2 for an input that is refused, 3 for a device, 4 where memory ran out or a
-    /// thread did not start, and for a journal that lacks a receipt.
+    /// thread did not start, and for a journal that lacks a receipt; 5 where it cannot be told of all runs.
     pub fn code(self) -> u8
         ensures { result ≡ exit_after self }
     {
         match self {
+            Fault::Refused(refused) if refused.is_untold() => 5,
             Fault::Refused(_) => 2,
             Fault::Device(_) => 3,
             Fault::Missing(_) => 4,
@@ -161,7 +177,7 @@ impl fmt::Display for Refused {
             Refused::Steps(line) => write!(f, "S1 BadLine {line}"),
             Refused::Script(fault) => write!(f, "{fault}"),
             Refused::Step(refusal, accepted) => write!(f, "{refusal} at {accepted}"),
-            Refused::TooManyImages => write!(f, "I1 TooMany"),
+            Refused::TooManyImages | Refused::TooManyInRun => write!(f, "I1 TooMany"),
             Refused::TooManyStates => write!(f, "R1 TooManyStates"),
             Refused::NoRoom => write!(f, "R2 NoRoom"),
         }

@@ -142,6 +142,21 @@ pub struct CheckOptions<'a> {
     pub explains_image: bool,
 }
 
+/// What `check` is asked where it asks the questions of the program's text.
+#[derive(Clone, Copy, Debug)]
+pub struct QuestionOptions<'a> {
+    /// `--before-crash`: only runs that do not crash after the given steps are explored.
+    pub before_crash: bool,
+    /// `--states`: at most so many states are told apart for each question.
+    pub states: u64,
+    /// `--show`: the steps of each run that was found are shown.
+    pub show: bool,
+    /// `--explain-image`: which writes are missing in each image that was found, and in what the crashes of its run left, and why.
+    pub explains_image: bool,
+    /// `--only NAME`: the question of this name is asked, and no other.
+    pub only: Option<&'a str>,
+}
+
 /// What `outcomes` is asked.
 #[derive(Clone, Copy, Debug)]
 pub struct OutcomesOptions {
@@ -249,6 +264,8 @@ pub enum Task<'a> {
     Debug,
     /// `check`: asks conditions of all runs of the program.
     Check(CheckOptions<'a>),
+    /// `check` without a condition: asks the questions of the program's text.
+    Ask(QuestionOptions<'a>),
     /// `outcomes`: lists how all runs of the program end.
     Outcomes(OutcomesOptions),
     /// `fences`: reports what each flush and fence of the program is needed for.

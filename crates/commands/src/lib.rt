@@ -37,8 +37,8 @@ pub use image_text::{
 };
 pub use jobs::{
     AskedRuns, CheckOptions, Demand, EndsOptions, FencesOptions, HuntOptions, ImagesOptions, Job,
-    LossesOptions, MendOptions, NextOptions, OutcomesOptions, ReplayOptions, ScheduleJob,
-    SetOptions, TallyOptions, Task, TraceOptions,
+    LossesOptions, MendOptions, NextOptions, OutcomesOptions, QuestionOptions, ReplayOptions,
+    ScheduleJob, SetOptions, TallyOptions, Task, TraceOptions,
 };
 pub use missing_text::{
     image_explained, push_image_lines, push_image_named, push_missing_line, push_where,
@@ -47,6 +47,7 @@ pub use number_text::{push_labelled, push_number};
 pub use outcome_text::{Named, behind, number_at, push_named, push_registers};
 pub use program::{
     condition_in, load, machine_after, read_condition, read_lined, read_list, read_program,
+    read_questions,
 };
 pub use script_fault::ScriptFault;
 pub use seen_text::{push_act, push_seen};

@@ -1,11 +1,11 @@
 //! What the bytes of a program, a condition and a list of steps say.
-ghost use Rattle.std.specs.Prelude.{◌≡◌, length, map, IfOk, option_copied};
+ghost use Rattle.std.specs.Prelude.{◌≡◌, [], length, map, IfOk, option_copied};
 ghost use Rattle.std.specs.Result.{result_map_both};
 ghost use Rattle.outcomes.specs.Calls.{Answers};
 ghost use Rattle.outcomes.specs.Faults.{fault_in};
 ghost use Rattle.machine.specs.Objects.{opening};
 ghost use Rattle.machine.specs.Steps.{run_of};
-ghost use Rattle.commands.specs.Programs.{asked_condition, condition_work, lined_text_of, lined_work, list_work, program_work, state_work};
+ghost use Rattle.commands.specs.Programs.{asked_condition, asked_text_of, condition_work, lined_work, list_work, program_work, questioned_work, state_work};
 ghost use Rattle.commands.specs.Works.{Makes, work};
 ghost use Rattle.commands.specs.declared.fault.Stage.TheVariants as stages;
 
@@ -17,47 +17,70 @@ use litmus_text::{LinedObject, TextFault, TextLines};
 use loader::read_object;
 use machine::{Machine, Step};
 use outcomes::OrNoMemory;
+use questions::{Questioned, read_questioned};
 use schedule::{StepsFault, read_steps};
-use sheets::{is_sheet, read_sheet};
+use sheets::is_sheet;
 use std::alloc::Global;
 
 /// What an object file begins with, of whatever version.
 const OBJECT_FILE: &[u8] = b"PX86OBJ";
 
-/// What a text says, as a sheet or as a litmus text, and the lines of its instructions.
-fn read_text(alloc: Global, bytes: &[u8]) -> Result<LinedObject, OrNoMemory<TextFault>>
-    ensures { Answers fault_in (lined_text_of bytes.now) result }
+/// A program that asks nothing.
+fn unasked(alloc: Global, lined: LinedObject) -> Questioned
+    ensures { result ≡ record { lined = lined; questions = [] } }
 {
-    if is_sheet(bytes) {
-        read_sheet(alloc, bytes)
-    } else {
-        litmus_text::read_lined(alloc, bytes)
+    Questioned {
+        lined,
+        questions: Vec::new(alloc),
     }
 }
 
-/// What a program file says, and the lines of its instructions, where it is a text.
+/// What a text says, as a sheet with its questions or as a litmus text, and the lines of its instructions.
+fn read_text(alloc: Global, bytes: &[u8]) -> Result<Questioned, OrNoMemory<TextFault>>
+    ensures { Answers fault_in (asked_text_of bytes.now) result }
+{
+    if is_sheet(bytes) {
+        return read_questioned(alloc, bytes);
+    }
+    let lined = litmus_text::read_lined(alloc, bytes)?;
+    Ok(unasked(alloc, lined))
+}
+
+/// What a program file says, the lines of its instructions and its questions, where it is a text. A sheet alone has questions.
 ///
 /// # Errors
 ///
-/// A fault of the program, as an object file or as a text; out of memory.
+/// A fault of the program, as an object file or as a text, or of its questions; out of memory.
 #[tactic(auto, unfolding(crate::specs::Works::Makes), using(crate::proofs::WorksInTurn::turns))]
-pub fn read_lined(alloc: Global, bytes: &[u8]) -> Result<LinedObject, Fault>
-    ensures { Makes (lined_work bytes.now) result }
+pub fn read_questions(alloc: Global, bytes: &[u8]) -> Result<Questioned, Fault>
+    ensures { Makes (questioned_work bytes.now) result }
 {
     if bytes.starts_with(OBJECT_FILE) {
         match read_object(alloc, bytes) {
-            Ok(object) => Ok(LinedObject {
-                object,
-                lines: TextLines::none(),
-            }),
+            Ok(object) => {
+                let lines = TextLines::none();
+                Ok(unasked(alloc, LinedObject { object, lines }))
+            }
             Err(error) => Err(Stage::Object.fault(error.map(|fault| Refused::Object(fault)))),
         }
     } else {
         match read_text(alloc, bytes) {
-            Ok(lined) => Ok(lined),
+            Ok(asked) => Ok(asked),
             Err(error) => Err(Stage::Text.fault(error.map(|fault| Refused::Text(fault)))),
         }
     }
+}
+
+/// What a program file says, and the lines of its instructions, where it is a text. Its questions are read, and left out.
+///
+/// # Errors
+///
+/// Those of [`read_questions`].
+pub fn read_lined(alloc: Global, bytes: &[u8]) -> Result<LinedObject, Fault>
+    ensures { Makes (lined_work bytes.now) result }
+{
+    let asked = read_questions(alloc, bytes)?;
+    Ok(asked.lined)
 }
 
 /// What a program file says.

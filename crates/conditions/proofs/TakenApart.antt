@@ -7,6 +7,7 @@ use Rattle.std.proofs.lemmas.List.Folds.{list_all-append, list_any-append}
 use Rattle.std.specs.Prelude.{not, ◌&&◌, ◌||◌, ◌*◌}
 use Rattle.std.specs.List.{list_all, list_any}
 use Rattle.conditions.specs.declared.cond.Operand.{Operand}
+use Rattle.conditions.specs.Terms.{Term}
 use Rattle.conditions.specs.Formulas.{Formula, Not, And, Or}
 use Rattle.conditions.specs.Truth.{holds_by}
 use Rattle.conditions.specs.Conjuncts.{AreConjuncts, claimed, combined, crossed, tests}
@@ -32,7 +33,7 @@ alone_are f = record {
 }
 
 -- the conjuncts of a formula are those of another that says the same
-said_so : (parts : List Formula) (f g : Formula) → ((value : Operand → Option ℕ) → holds_by value f ≡ holds_by value g) → ((among : Operand → Bool) → tests among f ≡ tests among g)
+said_so : (parts : List Formula) (f g : Formula) → ((value : Operand → Option ℕ) → holds_by value f ≡ holds_by value g) → ((among : Term → Bool) → tests among f ≡ tests among g)
     → AreConjuncts parts f → AreConjuncts parts g
 said_so parts f g says asks are = record {
   same = λ value. are.same value ∙ says value;
@@ -76,7 +77,7 @@ module _ (value : Operand → Option ℕ) where
       gather false false true = refl
       gather false false false = refl
 
-module _ (among : Operand → Bool) where
+module _ (among : Term → Bool) where
   each_tests : (f : Formula) (gs : List Formula) → list_any (tests among) (map (Or f) gs) ≡ true → (tests among f || list_any (tests among) gs) ≡ true
   each_tests f [] any = absurd (true≢false (sym any))
   each_tests f (g ∷ gs) any = found (tests among f) (tests among g) (list_any (tests among) gs) (list_any (tests among) (map (Or f) gs)) any (each_tests f gs)

@@ -2,12 +2,13 @@
 use Rattle.std.specs.Prelude.{◌≡◌, ℕ, Bool, true, false, ◌||◌, Option, List, [], ◌∷◌, ◌++◌, map, if◌then◌else◌}
 use Rattle.std.specs.List.{list_all, list_any}
 use Rattle.conditions.specs.declared.cond.Operand.{Operand}
-use Rattle.conditions.specs.Formulas.{Formula, Test, Not, And, Or}
+use Rattle.conditions.specs.Terms.{Term}
+use Rattle.conditions.specs.Formulas.{Formula, Compared, Not, And, Or}
 use Rattle.conditions.specs.Truth.{holds_by}
 
--- whether a formula tests one of some operands
-abbrev pub tests : (Operand → Bool) → Formula → Bool
-tests among (Test operand comparison n) = among operand
+-- whether a formula tests one of some terms
+abbrev pub tests : (Term → Bool) → Formula → Bool
+tests among (Compared left comparison right) = among left || among right
 tests among (Not f) = tests among f
 tests among (And f g) = tests among f || tests among g
 tests among (Or f g) = tests among f || tests among g
@@ -16,8 +17,8 @@ tests among (Or f g) = tests among f || tests among g
 pub record AreConjuncts (parts : List Formula) (whole : Formula) : Type 0 where
   -- whatever values operands have, all the parts hold exactly where the whole does
   pub same : (value : Operand → Option ℕ) → list_all (holds_by value) parts ≡ holds_by value whole
-  -- no part tests an operand that the whole does not
-  pub within : (among : Operand → Bool) → list_any (tests among) parts ≡ true → tests among whole ≡ true
+  -- no part tests a term that the whole does not
+  pub within : (among : Term → Bool) → list_any (tests among) parts ≡ true → tests among whole ≡ true
 
 -- ---- how they are found: no rule, and in no public clause
 

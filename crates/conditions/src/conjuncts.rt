@@ -3,10 +3,11 @@
 //! `and` is taken apart, `or` is distributed over it, and `not` goes inwards.
 ghost use Rattle.std.specs.Prelude.{◌≡◌, ◌++◌, ◌∷◌, ◌≤◌, [], IfOk, MatchOption, OnOk, length, map};
 ghost use Rattle.conditions.specs.Conjuncts.{AreConjuncts, claimed, combined, crossed};
-ghost use Rattle.conditions.specs.Formulas.{Or, formula};
+ghost use Rattle.conditions.specs.Formulas.{Or, formula, strays};
 ghost use Rattle.conditions.specs.Limits.{most_conjuncts};
 
-use crate::cond::{Cond, Node};
+use crate::cond::Cond;
+use crate::tree::Node;
 use std::alloc::{AllocError, Global};
 
 /// How many conjuncts a condition is taken apart into. What would come to more stays one.
@@ -25,11 +26,12 @@ impl Cond {
 
 /// The conjuncts of what a tree says, or of that it does not hold.
 fn parts_of(alloc: Global, node: &Node, wanted: bool) -> Result<Vec<Cond>, AllocError>
+    requires { strays node.now ≡ 0 }
     ensures conjuncts { IfOk result (λ parts. AreConjuncts parts.items (claimed wanted (formula node.now))) }
     ensures few { IfOk result (λ parts. length parts.items ≤ most_conjuncts) }
 {
     match node {
-        Node::Atom(_, _, _) => alone(alloc, node, wanted),
+        Node::Atom(_, _, _) | Node::Compares(_, _, _) => alone(alloc, node, wanted),
         Node::Not(inner) => parts_of(alloc, inner, !wanted),
         Node::And(left, right) => {
             let ones = parts_of(alloc, left, wanted)?;
@@ -47,11 +49,13 @@ fn parts_of(alloc: Global, node: &Node, wanted: bool) -> Result<Vec<Cond>, Alloc
                 None => alone(alloc, node, wanted),
             }
         }
+        _ => unreachable!(),
     }
 }
 
 /// What a tree says, or that it does not hold, as one condition.
 fn alone(alloc: Global, node: &Node, wanted: bool) -> Result<Vec<Cond>, AllocError>
+    requires { strays node.now ≡ 0 }
     ensures { IfOk result (λ parts. parts.items ≡ claimed wanted (formula node.now) ∷ []) }
 {
     let mut parts = Vec::new(alloc);
@@ -61,6 +65,7 @@ fn alone(alloc: Global, node: &Node, wanted: bool) -> Result<Vec<Cond>, AllocErr
 
 /// That a tree holds, or that it does not.
 fn claimed(alloc: Global, node: &Node, wanted: bool) -> Result<Cond, AllocError>
+    requires { strays node.now ≡ 0 }
     ensures { IfOk result (λ cond. cond ≡ claimed wanted (formula node.now)) }
 {
     let cond = Cond::of(alloc, node)?;

@@ -1,5 +1,5 @@
 -- What is asked of the images of a state.
-use Rattle.std.specs.Prelude.{ℕ, Option, Some, None, List}
+use Rattle.std.specs.Prelude.{ℕ, Bool, Option, Some, None, List}
 use Rattle.std.specs.List.{filter}
 use Rattle.lines_layout.specs.Names.{Text}
 use Rattle.litmus_text.specs.declared.text_lines.LinedObject.{LinedObject}
@@ -29,9 +29,13 @@ all_of s cond = all_on s cond (count_in s)
 abbrev pub set_of : State → List ℕ → Text
 set_of s image = set_text (closed_set_of s image)
 
+-- whether a condition does not hold for an image of the state
+unfoldable pub breaks : State → Formula → List ℕ → Bool
+breaks s cond image = fails_on s cond image
+
 -- the images for which a condition does not hold, and how many they are; where there are more candidates than are counted, only that
 abbrev pub broken_on : State → Formula → Count → Text
-broken_on s cond (Number n) = images_text (filter (fails_on s cond) (images_of s))
+broken_on s cond (Number n) = images_text (filter (breaks s cond) (images_of s))
 broken_on s cond More = candidates_text More
 
 -- the same of a state, whose candidates are counted

@@ -2,11 +2,11 @@
 ghost use Rattle.std.specs.Prelude.{◌≡◌, ◌++◌, IfOk, OnOk, Some, option_copied, slice_index_or, string_bytes};
 ghost use Rattle.persist_buffer.specs.declared.entry.PendingEntry.TheVariants.{Marker};
 ghost use Rattle.std.specs.List.{filter};
-ghost use Rattle.images.specs.Truth.{fails_on, value_on};
+ghost use Rattle.images.specs.Truth.{value_on};
 ghost use Rattle.image_reasons.specs.Reasons.{missing_found};
 ghost use Rattle.explore.specs.Falls.{fall_at, step_for};
 ghost use Rattle.jobs.specs.ImageReports.{all_text};
-ghost use Rattle.conversations.specs.Imaged.{all_of, broken_of, set_of, told_of, why_of};
+ghost use Rattle.conversations.specs.Imaged.{all_of, breaks, broken_of, set_of, told_of, why_of};
 
 use commands::{push_candidates, push_image_lines, push_images, push_values};
 use image_reasons::{Missing, missing_writes};
@@ -75,17 +75,22 @@ fn image_value(view: &View, image: &Image, operand: Operand) -> Option<u64>
 }
 
 /// Whether a condition does not hold where an image is read as the persisted values.
+#[tactic(auto, unfolding(crate::specs::Imaged::breaks))]
 fn fails(cond: &Cond, view: &View, image: &Image) -> bool
-    ensures { result ≡ fails_on view.now cond.now image.now }
+    ensures { result ≡ breaks view.now cond.now image.now }
 {
     !cond.holds(&ImageValues { view, image })
 }
 
 /// Drops the images for which a condition holds.
 fn keep_broken(images: &mut Vec<Image>, cond: &Cond, view: &View)
-    ensures { images.new.items ≡ filter (fails_on view.now cond.now) images.old.items }
+    ensures { images.new.items ≡ filter (breaks view.now cond.now) images.old.items }
 {
-    images.retain(|image| fails(cond, view, image));
+    images.retain(
+        move |image: &Image| -> bool
+            ensures { result ≡ breaks view.entry.now cond.entry.now image.now }
+        { fails(cond, view, image) },
+    );
 }
 
 /// Appends the images of a state for which a condition does not hold; or that there are too many candidates.

@@ -26,13 +26,24 @@ pub fn explain(alloc: Global, evidence: &Evidence<'_>, fault: Fault) -> Result<S
     Ok(text)
 }
 
+/// What `check` may do where there are too many states.
+const FEWER_STATES: &str =
+    "more states than `--states` says are told apart: check a case with fewer records, or `--before-crash` alone; give a higher `--states N`; or ask `hunt`, which samples: docs/GUIDE.md, section 6.";
+
 /// What `check` may do where there are too many states, and `outcomes` may not: leave recovery out.
 fn states_hint(asked: Task<'_>) -> &'static str {
     match asked {
-        Task::Check(options) if !options.before_crash => {
-            "more states than `--states` says are told apart: check a case with fewer records, or `--before-crash` alone; give a higher `--states N`; or ask `hunt`, which samples: docs/GUIDE.md, section 6."
-        }
+        Task::Check(options) if !options.before_crash => FEWER_STATES,
+        Task::Ask(options) if !options.before_crash => FEWER_STATES,
         _ => "",
+    }
+}
+
+/// Appends the lines for values that are none of an image, or for a name that no question has.
+fn push_usage(text: &mut String, layout: &Layout, asked: Task<'_>) -> Pushed {
+    match asked {
+        Task::Ask(_) => push_sentence(text, "usage: no question of the program has this name.", ""),
+        _ => push_set_fault(text, layout),
     }
 }
 
@@ -54,7 +65,7 @@ fn push_fault_on(
         Refused::Script(ScriptFault::BadLine(number)) => {
             push_script_line_fault(text, layout, evidence.steps, number)
         }
-        Refused::Usage => push_set_fault(text, layout),
+        Refused::Usage => push_usage(text, layout, evidence.asked),
         _ => push_sentence(text, sentence, ""),
     }
 }

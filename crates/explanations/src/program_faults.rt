@@ -21,8 +21,11 @@ fn hint(kind: LineFault, spot: &Spot<'_>) -> &'static str {
         LineFault::BadLabel => hint_of(&OF_A_LABEL, spot),
         LineFault::NotAscii => hint_of(&OF_BYTES, spot),
         LineFault::Layout(LayoutFault::BadName) => hint_of(&OF_A_NAME, spot),
-        LineFault::TooLong | LineFault::MissingEnd | LineFault::Layout(_) | LineFault::BadName =>
-            "",
+        LineFault::TooLong
+        | LineFault::MissingEnd
+        | LineFault::Layout(_)
+        | LineFault::BadName
+        | LineFault::BadCond => "",
     }
 }
 

@@ -48,6 +48,8 @@ pub(crate) fn refused_sentence(refused: Refused) -> &'static str {
             "X8 L4: a name is a lower case letter and at most 15 of `a-z`, `0-9` and `_`, and no register's name.",
         Refused::Text(TextFault::At(LineFault::BadName, _)) =>
             "X10: a constant is an upper case letter and at most 15 of `A-Z`, `0-9` and `_`, and is given once.",
+        Refused::Text(TextFault::At(LineFault::BadCond, _)) =>
+            "X11: this token may not be there in a question or a `let`, or it ends too soon: `every PLACE NAME: CONDITION`, `some PLACE NAME: CONDITION`, `let NAME = CONDITION` or `let NAME = VALUE`, and a PLACE is `crash`, `end` or `recovery`. A condition has at most 64 brackets and `not`s open at once.",
         Refused::Object(ObjectFault::BadMagic) =>
             "O1: the eighth byte of an object file is its version, `1` or `2`.",
         Refused::Object(ObjectFault::Short) =>
@@ -83,14 +85,14 @@ pub(crate) fn refused_sentence(refused: Refused) -> &'static str {
             "R1: more states than `--states` says are told apart: take a case with fewer records, give a higher `--states N`, or ask `tally` or `hunt`, which sample: docs/GUIDE.md, section 6.",
         Refused::NoRoom =>
             "R2: in some run 256 writes of one cache line, or 256 flushes, are pending, and a processor waits for room (M8, M9): check a case with fewer of them, as fences make no room; or ask `hunt`, which samples.",
-        Refused::TooManyImages =>
+        Refused::TooManyImages | Refused::TooManyInRun =>
             "I1: there are more than 65,536 candidates. Persist the lines that the question is not about, flush as the structure does, or write fewer lines; or ask `images --count`, `images --set` or `hunt --all`: docs/GUIDE.md, section 4.",
         Refused::TooManySchedules =>
             "K1: the numbers of schedules are below 2^32: ask for fewer by `--first` and `--runs`.",
         Refused::NoFence =>
             "K4: no flush or fence is at this place of the program: `fences` without `--only` reports where each is.",
         Refused::Usage =>
-            "usage: `--set` takes one value for each word of the program, in order: unsigned decimal numbers below 2^64, with blanks between them.",
+            "usage: `--set` takes one value for each word of the program, in order: unsigned decimal numbers below 2^64, with blanks between them; and `--only` the name of a question of the program.",
         Refused::Step(refusal, _) => refusal_sentence(refusal),
     }
 }

@@ -13,16 +13,16 @@ fn hint(kind: LineFault) -> &'static str {
         LineFault::BadWord =>
             "a word is out of place, missing or extra, or no instruction, register or line has this name; or no word is left for a value of `init`.",
         LineFault::UnknownName =>
-            "no line before this one gives a word or a constant of this name, and no register has it.",
+            "no line before this one gives a word or a constant of this name, and no register has it; in a question, no `let` or question before it has it, or the program has no processor of this number.",
         LineFault::BadNumber =>
             "a number is misspelled or out of range: `line * N` makes 1 to 64 lines, `NAME[K]` 1 to 8 names, `cpu * N` 1 to 16 processors, and `recover P` is of one of these. `mov R, NUMBER` and `init` take 64 bits; all other instructions take 32 bits with a sign.",
         LineFault::MissingEnd =>
             "the text ends too soon: it begins with `sheet 1`, and each `cpu` has its `end`.",
-        LineFault::BadLabel
-        | LineFault::TooLong
-        | LineFault::NotAscii
-        | LineFault::Layout(_)
-        | LineFault::BadName => "",
+        LineFault::TooLong =>
+            "a text has at most 16 processors, and a program at most 1,024 instructions. A sheet has at most 64 questions; each of these, and each `let`, has at most 1,024 tokens, and 4,096 numbers, words and registers with those of the names in it.",
+        LineFault::BadName =>
+            "a constant is an upper case letter and at most 15 of `A-Z`, `0-9` and `_`, and is given once. The name of a question or of a `let` is spelled as that of a word, is no word that conditions are made of, and is given once.",
+        LineFault::BadLabel | LineFault::NotAscii | LineFault::Layout(_) | LineFault::BadCond => "",
     }
 }
 

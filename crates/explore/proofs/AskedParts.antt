@@ -7,8 +7,8 @@ use Rattle.persist_buffer.specs.declared.entry.PendingEntry.{PendingEntry}
 use Rattle.pending_images.specs.Candidates.{all_lines, choices, markers}
 use Rattle.machine.specs.declared.step.Step.{Step}
 use Rattle.machine.specs.State.{State}
-use Rattle.conditions.specs.Formulas.{Formula, Test, Not, And, Or}
-use Rattle.conditions.specs.Truth.{asks_line, holds_by, is_on_line}
+use Rattle.conditions.specs.Formulas.{Formula, Compared, Not, And, Or}
+use Rattle.conditions.specs.Truth.{asks_line, holds_by, term_asks_line}
 use Rattle.conditions.specs.Conjuncts.{tests}
 use Rattle.images.specs.Truth.{value_on}
 use Rattle.explore.specs.declared.fault.ExploreFault.{ExploreFault}
@@ -35,14 +35,14 @@ use Rattle.explore.proofs.AskedCounts.{candidates_on, fewer_asked}
 
 -- ---- a part asks fewer lines, which have fewer candidates
 
-lines_are_tests : (line : ℕ) (f : Formula) → asks_line line f ≡ tests (is_on_line line) f
-lines_are_tests line (Test operand comparison n) = refl
+lines_are_tests : (line : ℕ) (f : Formula) → asks_line line f ≡ tests (term_asks_line line) f
+lines_are_tests line (Compared left comparison right) = refl
 lines_are_tests line (Not f) = lines_are_tests line f
 lines_are_tests line (And f g) = ap₂ (λ (a b : Bool). a || b) (lines_are_tests line f) (lines_are_tests line g)
 lines_are_tests line (Or f g) = ap₂ (λ (a b : Bool). a || b) (lines_are_tests line f) (lines_are_tests line g)
 
 asked_within : (part whole : Formula) → IsPart part whole → (line : ℕ) → asks_line line part ≡ true → asks_line line whole ≡ true
-asked_within part whole is line asks = lines_are_tests line whole ∙ is.within (is_on_line line) (sym (lines_are_tests line part) ∙ asks)
+asked_within part whole is line asks = lines_are_tests line whole ∙ is.within (term_asks_line line) (sym (lines_are_tests line part) ∙ asks)
 
 times_one : (n : ℕ) → n * 1 ≡ n
 times_one n = omega arith

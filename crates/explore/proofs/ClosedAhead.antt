@@ -1,5 +1,5 @@
 -- Closed states stand for all that is reachable, where own steps come first.
-use Rattle.std.proofs.Common.{◌≡◌, ℕ, zero, suc, ◌<◌, inl, inr, Bool, true, false, not, Option, Some, List, [], ◌∷◌, refl, sym, ap, ap₂, subst, ◌∙◌, arith, true≢false}
+use Rattle.std.proofs.Common.{◌≡◌, ℕ, zero, suc, ◌<◌, inl, inr, Bool, true, false, not, Option, Some, List, [], ◌∷◌, refl, sym, ap, subst, ◌∙◌, arith, true≢false}
 use Rattle.std.proofs.lemmas.Bool.{cases_Bool}
 use Rattle.std.specs.Prelude.{◌⊎◌, ◌&&◌, ◌||◌, Contains, option_map, slice_get}
 use Rattle.std.specs.Option.{option_map_or}
@@ -8,20 +8,19 @@ use Rattle.isa.specs.declared.register.Reg.{Reg}
 use Rattle.machine.specs.State.{Processor, State}
 use Rattle.conditions.specs.declared.cond.Operand.{Operand}
 use Rattle.conditions.specs.declared.cond.Operand.TheVariants.{Persisted, Coherent, Register}
-use Rattle.conditions.specs.Formulas.{Formula, Test, Not, And, Or}
-use Rattle.conditions.specs.Truth.{compared, holds_by}
+use Rattle.conditions.specs.Formulas.{Formula}
+use Rattle.conditions.proofs.SameValues.{same_truth, words_decide}
 use Rattle.images.specs.Images.{IsImage, image_at}
 use Rattle.images.specs.Truth.{holds_on, value_on}
 use Rattle.explore.specs.Ahead.{AreClosedAhead, AreClosedFrom, CoversAhead, IsAdvanced, IsCoveredAhead, IsIdle, IsPassed, IsSeen, IsTried, is_unmixed, may_pass}
-use Rattle.conditions.specs.Conjuncts.{tests}
-use Rattle.conditions.specs.Truth.{is_persisted, is_register, reads_persisted, reads_registers}
+use Rattle.conditions.specs.Truth.{asks_persisted, is_register, reads_persisted, reads_registers}
 use Rattle.explore.specs.Covering.{IsLike}
 use Rattle.explore.specs.declared.question.Question.{Question}
 use Rattle.explore.specs.Followed.{all_own, own_end}
 use Rattle.explore.specs.Own.{HaveGone}
 use Rattle.explore.specs.Reachable.{IsAlwaysKept, IsKept, IsReachable}
 use Rattle.explore.proofs.AheadSteps.{AreLookedAt, Ends, IsKnown, IsLeftBy, ahead_of, covered_then, covers_ahead_of, first_known, gone_none, run_known}
-use Rattle.explore.proofs.ClosedStates.{kept_covered, kept_without, same_persisted, same_truth}
+use Rattle.explore.proofs.ClosedStates.{kept_covered, kept_without, same_persisted}
 use Rattle.explore.proofs.OwnStepsEnd.{registers_stay}
 use Rattle.explore.proofs.CoveredSteps.{sound_whole}
 use Rattle.explore.proofs.LaterNodes.{kind_of, later_node}
@@ -118,26 +117,8 @@ registers_same shape (c ∷ cs) [] p x gone = absurd gone
 registers_same shape (c ∷ cs) (d ∷ ds) zero x gone = λ k. Some (reg (sym (registers_stay shape gone.0.0 c d gone.0.1) k) x)
 registers_same shape (c ∷ cs) (d ∷ ds) (suc p) x gone = registers_same shape cs ds p x gone.1
 
-pub same_by_memory : (v w : Operand → Option ℕ) → ((operand : Operand) → is_register operand ≡ false → v operand ≡ w operand) → (f : Formula) → reads_registers f ≡ false → holds_by v f ≡ holds_by w f
-same_by_memory v w same (Test operand comparison n) none = ap (λ (value : Option ℕ). option_map_or (λ (x : ℕ). compared comparison x n) value false) (same operand none)
-same_by_memory v w same (Not f) none = ap (λ (b : Bool). not b) (same_by_memory v w same f none)
-same_by_memory v w same (And f g) none =
-    let both = neither (reads_registers f) (reads_registers g) none in
-    ap₂ (λ (a b : Bool). a && b) (same_by_memory v w same f both.0) (same_by_memory v w same g both.1)
-  where
-    neither : (a b : Bool) → (a || b) ≡ false → (a ≡ false) × (b ≡ false)
-    neither true b e = absurd (true≢false e)
-    neither false b e = (refl, e)
-same_by_memory v w same (Or f g) none =
-    let both = neither (reads_registers f) (reads_registers g) none in
-    ap₂ (λ (a b : Bool). a || b) (same_by_memory v w same f both.0) (same_by_memory v w same g both.1)
-  where
-    neither : (a b : Bool) → (a || b) ≡ false → (a ≡ false) × (b ≡ false)
-    neither true b e = absurd (true≢false e)
-    neither false b e = (refl, e)
-
 holds_ahead : (sets locals : Bool) (condition : Formula) (r t : State) → (locals && reads_registers condition) ≡ false → CoversAhead sets locals r t → (image : List ℕ) → holds_on t condition image ≡ holds_on (ahead_of r t) condition image
-holds_ahead sets true condition r t none c image = same_by_memory (value_on t image) (value_on (ahead_of r t) image) same condition none
+holds_ahead sets true condition r t none c image = words_decide (value_on t image) (value_on (ahead_of r t) image) same condition none
   where
     same : (operand : Operand) → is_register operand ≡ false → value_on t image operand ≡ value_on (ahead_of r t) image operand
     same (Persisted word) is = refl
@@ -166,8 +147,8 @@ kept_by_few sets locals question condition nodes start none unmixed asked from t
         let here = leaves_reached sets r.memory persisted (sound_whole r (from.sound_nodes r there)) left_there in
         same_persisted r t condition image shape alone ∙ looked.all condition asked image (persisted, here, shown ∙ ap (λ (lines : List ℕ). image_at lines persisted) shape)
 
-    untested : reads_persisted condition ≡ false → (is_unmixed condition) ≡ true → tests is_persisted condition ≡ false
-    untested others is = not_true (tests is_persisted condition) (ap (λ (b : Bool). b || not (tests is_persisted condition)) (sym others) ∙ is)
+    untested : reads_persisted condition ≡ false → (is_unmixed condition) ≡ true → asks_persisted condition ≡ false
+    untested others is = not_true (asks_persisted condition) (ap (λ (b : Bool). b || not (asks_persisted condition)) (sym others) ∙ is)
       where
         not_true : (b : Bool) → not b ≡ true → b ≡ false
         not_true true e = absurd (true≢false (sym e))

@@ -23,6 +23,7 @@ use Rattle.machine.proofs.PersistAndSettleStepsSplit.{persist_only, settle_only}
 use Rattle.machine.proofs.ProcessorSteps.{drain_only, exec_only}
 use Rattle.conditions.specs.declared.cond.Operand.{Operand}
 use Rattle.conditions.specs.declared.cond.Operand.TheVariants.{Persisted, Coherent, Register}
+use Rattle.conditions.proofs.SameValues.{same_truth}
 use Rattle.conditions.specs.Formulas.{Formula}
 use Rattle.images.specs.Images.{image_at}
 use Rattle.images.specs.Truth.{value_in}
@@ -47,7 +48,6 @@ use Rattle.explore.proofs.OwnStepsFollowed.{AreOwn, first_is_own, owns_own}
 use Rattle.explore.proofs.RanByClosed.{ran_by_closed}
 use Rattle.explore.proofs.RunsGathered.{executed_among, is_behind, runs_execute}
 use Rattle.explore.proofs.Visits.{longer_run, no_crash, none_quiet, nothing_there, one_step, path_then}
-use Rattle.explore.proofs.ClosedStates.{same_truth}
 use Rattle.explore.proofs.SoundRuns.{of_itself, run_of_it}
 
 -- ---- a condition

@@ -11,6 +11,7 @@ use Rattle.conditions.specs.Formulas.{Formula}
 use Rattle.conditions.specs.declared.cond.Operand.{Operand}
 use Rattle.conditions.specs.declared.cond.Operand.TheVariants.{Persisted, Coherent, Register}
 use Rattle.conditions.specs.Truth.{is_register, reads_registers}
+use Rattle.conditions.proofs.SameValues.{words_decide}
 use Rattle.images.specs.Images.{IsImage, image_at}
 use Rattle.images.specs.Truth.{holds_on, value_on}
 use Rattle.lines_layout.specs.Lines.{has_word}
@@ -29,7 +30,6 @@ use Rattle.explore.specs.Sets.{included}
 use Rattle.explore.specs.Sound.{IsOf, IsSound}
 use Rattle.explore.specs.Visits.{AreKeptOnce, AreKeptOr, IsSightOnce, IsSightOr}
 use Rattle.explore.proofs.AheadSteps.{same_restarts}
-use Rattle.explore.proofs.ClosedAhead.{same_by_memory}
 use Rattle.explore.proofs.CodesTell.{coded_tells}
 use Rattle.explore.proofs.FoundPaths.{Grows, among_more}
 use Rattle.explore.proofs.KeysTell.{canonical_tells}
@@ -51,7 +51,7 @@ unread false e = refl
 -- what reads no register is decided by the image and the coherent values
 same_in_memory : (a b : State) (f : Formula) (image : List ℕ) → b.shape ≡ a.shape → ((word : ℕ) → coherent b.memory word ≡ coherent a.memory word) → reads_registers f ≡ false
     → holds_on b f image ≡ holds_on a f image
-same_in_memory a b f image shape coherents none = same_by_memory (value_on b image) (value_on a image) same f none
+same_in_memory a b f image shape coherents none = words_decide (value_on b image) (value_on a image) same f none
   where
     same : (operand : Operand) → is_register operand ≡ false → value_on b image operand ≡ value_on a image operand
     same (Persisted word) is = ap (λ (lines : List ℕ). value_of lines image word) shape

@@ -1,5 +1,5 @@
 -- The least image that makes a condition false, of those that narrowed memories leave, is the least of the state.
-use Rattle.std.proofs.Common.{◌≡◌, ◌⊎◌, ℕ, zero, suc, ◌+◌, ◌*◌, ◌<◌, ◌≤◌, ◌==◌, inl, inr, Bool, true, false, not, ◌&&◌, ◌||◌, Option, Some, None, List, [], ◌∷◌, ◌++◌, length, map, refl, sym, ap, ap₂, subst, ◌∙◌, arith, true≢false, All}
+use Rattle.std.proofs.Common.{◌≡◌, ◌⊎◌, ℕ, zero, suc, ◌+◌, ◌*◌, ◌<◌, ◌≤◌, ◌==◌, inl, inr, Bool, true, false, not, Option, Some, None, List, [], ◌∷◌, ◌++◌, length, map, refl, sym, ap, ap₂, subst, ◌∙◌, arith, true≢false, All}
 use Rattle.std.proofs.lemmas.Bool.{cases_Bool, cases_lt, eqb-true, eq-eqb}
 use Rattle.std.proofs.lemmas.List.{length-map, map-append}
 use Rattle.std.proofs.lemmas.List.Elements.{All-head, All-tail}
@@ -24,8 +24,9 @@ use Rattle.machine.specs.State.{State}
 use Rattle.conditions.specs.declared.cond.Comparison.TheVariants as compares
 use Rattle.conditions.specs.declared.cond.Operand.{Operand}
 use Rattle.conditions.specs.declared.cond.Operand.TheVariants.{Persisted, Coherent, Register}
-use Rattle.conditions.specs.Formulas.{Formula, Test, Not, And, Or}
-use Rattle.conditions.specs.Truth.{asks_line, compared}
+use Rattle.conditions.specs.Formulas.{Formula, Test}
+use Rattle.conditions.specs.Truth.{asks_line, is_persisted}
+use Rattle.conditions.proofs.SameValues.{lines_decide}
 use Rattle.images.specs.Images.{IsImage, image_at}
 use Rattle.images.specs.Firsts.{IsLeastImage}
 use Rattle.images.specs.Truth.{holds_on, value_on}
@@ -37,10 +38,6 @@ use Rattle.explore.proofs.LaterMemories.{IsWhole}
 use Rattle.explore.proofs.NarrowImages.{image_same, line_least, line_same, narrow_whole, shrunk, shrunk_cut, shrunk_range, wide, wide_cut, word_beyond, word_of_cut}
 
 -- ---- conditions
-
-or_true : (b : Bool) → (b || true) ≡ true
-or_true true = refl
-or_true false = refl
 
 -- a state with these persisted values and no more
 abbrev bare : List ℕ → List ℕ → State
@@ -69,20 +66,16 @@ module _ (s : State) (xs ys : List ℕ) where
   Agree f = (word : ℕ) → asks_line (line_of word) f ≡ true → slice_index xs word ≡ slice_index ys word
 
   pub agree_holds : (f : Formula) → Agree f → holds_on s f (image_at s.shape xs) ≡ holds_on s f (image_at s.shape ys)
-  agree_holds (Test (Persisted word) comparison n) agree =
-      let same : one (Persisted word) ≡ two (Persisted word) = value_shown s.shape xs word ∙ ap (λ (n : ℕ). if has_word s.shape word then Some n else None) (agree word (eq-eqb (line_of word) (line_of word) refl)) ∙ sym (value_shown s.shape ys word) in
-      ap (λ (value : Option ℕ). option_map_or (λ (x : ℕ). compared comparison x n) value false) same
-  agree_holds (Test (Coherent word) comparison n) agree = refl
-  agree_holds (Test (Register p x) comparison n) agree = refl
-  agree_holds (Not f) agree = ap (λ (b : Bool). not b) (agree_holds f agree)
-  agree_holds (And f g) agree =
-      ap₂ (λ (a b : Bool). a && b)
-      (agree_holds f (λ word on. agree word (ap (λ (b : Bool). b || asks_line (line_of word) g) on)))
-      (agree_holds g (λ word on. agree word (ap (λ (b : Bool). asks_line (line_of word) f || b) on ∙ or_true (asks_line (line_of word) f))))
-  agree_holds (Or f g) agree =
-      ap₂ (λ (a b : Bool). a || b)
-      (agree_holds f (λ word on. agree word (ap (λ (b : Bool). b || asks_line (line_of word) g) on)))
-      (agree_holds g (λ word on. agree word (ap (λ (b : Bool). asks_line (line_of word) f || b) on ∙ or_true (asks_line (line_of word) f))))
+  agree_holds f agree = lines_decide one two others f by_lines
+    where
+      others : (operand : Operand) → is_persisted operand ≡ false → one operand ≡ two operand
+      others (Persisted word) is = absurd (true≢false is)
+      others (Coherent word) is = refl
+      others (Register p x) is = refl
+
+      by_lines : (word : ℕ) → asks_line (line_of word) f ≡ true → one (Persisted word) ≡ two (Persisted word)
+      by_lines word on =
+          value_shown s.shape xs word ∙ ap (λ (n : ℕ). if has_word s.shape word then Some n else None) (agree word on) ∙ sym (value_shown s.shape ys word)
 
 -- ---- images line by line
 

@@ -4,6 +4,7 @@ use Rattle.std.specs.Prelude.{◌&&◌, ◌||◌}
 use Rattle.std.specs.List.{list_all, list_any}
 use Rattle.std.proofs.lemmas.List.Folds.{list_all-append, list_any-append}
 use Rattle.conditions.specs.declared.cond.Operand.{Operand}
+use Rattle.conditions.specs.Terms.{Term}
 use Rattle.conditions.specs.Formulas.{Formula}
 use Rattle.conditions.specs.Truth.{holds_by}
 use Rattle.conditions.specs.Conjuncts.{AreConjuncts, tests}
@@ -58,7 +59,7 @@ all_first : (value : Operand → Option ℕ) (persisted others : Option Formula)
 all_first value None others f = all_put (holds_by value f) (list_all (holds_by value) (both None others))
 all_first value (Some g) others f = all_between (holds_by value g) (holds_by value f) (list_all (holds_by value) (both None others))
 
-any_first : (among : Operand → Bool) (persisted others : Option Formula) (f : Formula)
+any_first : (among : Term → Bool) (persisted others : Option Formula) (f : Formula)
     → list_any (tests among) (both (Some (with_more persisted f)) others) ≡ (list_any (tests among) (both persisted others) || tests among f)
 any_first among None others f = any_put (tests among f) (list_any (tests among) (both None others))
 any_first among (Some g) others f = any_between (tests among g) (tests among f) (list_any (tests among) (both None others))
@@ -68,7 +69,7 @@ all_alone : (value : Operand → Option ℕ) (others : Option Formula) (f : Form
 all_alone value None f = all_put (holds_by value f) true
 all_alone value (Some h) f = all_between (holds_by value h) (holds_by value f) true
 
-any_alone : (among : Operand → Bool) (others : Option Formula) (f : Formula)
+any_alone : (among : Term → Bool) (others : Option Formula) (f : Formula)
     → list_any (tests among) (both None (Some (with_more others f))) ≡ (list_any (tests among) (both None others) || tests among f)
 any_alone among None f = any_put (tests among f) false
 any_alone among (Some h) f = any_between (tests among h) (tests among f) false
@@ -79,7 +80,7 @@ all_second value None others f = all_alone value others f
 all_second value (Some g) others f =
     ap (λ (a : Bool). holds_by value g && a) (all_alone value others f) ∙ all_behind (holds_by value g) (list_all (holds_by value) (both None others)) (holds_by value f)
 
-any_second : (among : Operand → Bool) (persisted others : Option Formula) (f : Formula)
+any_second : (among : Term → Bool) (persisted others : Option Formula) (f : Formula)
     → list_any (tests among) (both persisted (Some (with_more others f))) ≡ (list_any (tests among) (both persisted others) || tests among f)
 any_second among None others f = any_alone among others f
 any_second among (Some g) others f =

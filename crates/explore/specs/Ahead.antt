@@ -9,8 +9,7 @@ use Rattle.machine.specs.State.{State}
 use Rattle.machine.specs.Steps.{step_of}
 use Rattle.explore.specs.Covering.{SpeaksFor}
 use Rattle.conditions.specs.Formulas.{Formula}
-use Rattle.conditions.specs.Conjuncts.{tests}
-use Rattle.conditions.specs.Truth.{is_persisted, reads_persisted, reads_registers}
+use Rattle.conditions.specs.Truth.{asks_persisted, reads_persisted, reads_registers}
 use Rattle.explore.specs.declared.question.Question.{Question}
 use Rattle.explore.specs.Ends.{holds_at}
 use Rattle.explore.specs.Followed.{all_own, first_own, own_end}
@@ -51,7 +50,7 @@ counts_locals question = option_map_or (λ condition. not (reads_registers condi
 
 -- whether a condition tests persisted values alone, or none
 abbrev pub is_unmixed : Formula → Bool
-is_unmixed condition = reads_persisted condition || not (tests is_persisted condition)
+is_unmixed condition = reads_persisted condition || not (asks_persisted condition)
 
 -- Whether keys tell what each line may hold, and not the order of what is pending: where no condition is asked of every state that tests persisted
 -- values and others, and nothing is pending at first.

@@ -6,6 +6,7 @@ use Rattle.machine.specs.declared.step.Step.{Step}
 use Rattle.machine.specs.State.{State}
 use Rattle.machine.specs.Steps.{run_of}
 use Rattle.conditions.specs.declared.cond.Operand.{Operand}
+use Rattle.conditions.specs.Terms.{Term}
 use Rattle.conditions.specs.Formulas.{Formula, And}
 use Rattle.conditions.specs.Truth.{holds_by}
 use Rattle.conditions.specs.Conjuncts.{AreConjuncts, tests}
@@ -40,10 +41,10 @@ with_more (Some before) f = And before f
 abbrev pub both : Option Formula → Option Formula → List Formula
 both one other = option_to_list one ++ option_to_list other
 
--- All of some formulas hold where all of others do, and they test the same operands.
+-- All of some formulas hold where all of others do, and they test the same terms.
 pub record AreOf (parts wholes : List Formula) : Type 0 where
   pub same : (value : Operand → Option ℕ) → list_all (holds_by value) parts ≡ list_all (holds_by value) wholes
-  pub within : (among : Operand → Bool) → list_any (tests among) parts ≡ list_any (tests among) wholes
+  pub within : (among : Term → Bool) → list_any (tests among) parts ≡ list_any (tests among) wholes
 
 -- A formula is sorted in: if two said what some formulas say, they say what these and the formula say.
 abbrev pub IsSortedIn : Formula → Option Formula → Option Formula → Option Formula → Option Formula → Type 0
@@ -51,10 +52,10 @@ IsSortedIn f persisted others now later = (fs : List Formula) → AreOf (both pe
 
 -- ---- what a part tells of the whole
 
--- A condition follows from another, and tests no operand that it does not.
+-- A condition follows from another, and tests no term that it does not.
 pub record IsPart (part whole : Formula) : Type 0 where
   pub follows : (value : Operand → Option ℕ) → holds_by value whole ≡ true → holds_by value part ≡ true
-  pub within : (among : Operand → Bool) → tests among part ≡ true → tests among whole ≡ true
+  pub within : (among : Term → Bool) → tests among part ≡ true → tests among whole ≡ true
 
 -- A question asks nothing that another does not ask.
 pub record AsksNoMore (part question : Question) : Type 0 where

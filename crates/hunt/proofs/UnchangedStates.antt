@@ -1,8 +1,7 @@
 -- A step that leaves all that a condition asks leaves what breaks it.
 use Rattle.std.proofs.Common.{◌≡◌, ℕ, ◌+◌, Bool, true, false, not, true≢false, Option, Some, None, Ok, List, refl, sym, ap, ap₂, ◌∙◌, subst, inl, inr}
 use Rattle.std.proofs.lemmas.Bool.{cases_Bool}
-use Rattle.std.specs.Prelude.{find, option_map, slice_get, ◌&&◌, ◌||◌, if◌then◌else◌}
-use Rattle.std.specs.Option.{option_map_or}
+use Rattle.std.specs.Prelude.{find, option_map, slice_get, if◌then◌else◌}
 use Rattle.lines_layout.specs.Lines.{has_word}
 use Rattle.isa.specs.declared.register.Reg.{Reg}
 use Rattle.isa.specs.Registers.{reg}
@@ -31,8 +30,9 @@ use Rattle.pending_images.specs.Listings as listings
 use Rattle.images.specs.Images.{value_of}
 use Rattle.conditions.specs.declared.cond.Operand.{Operand}
 use Rattle.conditions.specs.declared.cond.Operand.TheVariants.{Persisted as PersistedWord, Coherent, Register}
-use Rattle.conditions.specs.Formulas.{Formula, Test, Not, And, Or}
-use Rattle.conditions.specs.Truth.{compared, holds_by, is_register, reads_registers}
+use Rattle.conditions.specs.Formulas.{Formula}
+use Rattle.conditions.specs.Truth.{holds_by, is_register, reads_registers}
+use Rattle.conditions.proofs.SameValues.{words_decide}
 use Rattle.images.specs.Truth.{holds_on, value_in, value_on}
 use Rattle.hunt.specs.Crashes.{breach_by, broken_in}
 use Rattle.hunt.specs.Unchanged.{act_leaves_all, leaves_all}
@@ -94,24 +94,6 @@ step_same cond_reads_registers s u Settle seen made keeps =
 step_same cond_reads_registers s u Crash seen made keeps = absurd (shows_other cond_reads_registers seen (Crashed (s.crashes + 1)) (crash_seen s u seen made) refl keeps)
 
 -- ---- conditions ----
-
-left_part : (a b : Bool) → (a || b) ≡ false → a ≡ false
-left_part true b e = absurd (true≢false e)
-left_part false b e = refl
-
-right_part : (a b : Bool) → (a || b) ≡ false → b ≡ false
-right_part true b e = absurd (true≢false e)
-right_part false b e = e
-
--- words alone decide where no register is tested
-words_decide : (v w : Operand → Option ℕ) → ((operand : Operand) → is_register operand ≡ false → v operand ≡ w operand) → (f : Formula) → reads_registers f ≡ false
-    → holds_by v f ≡ holds_by w f
-words_decide v w same (Test operand comparison n) none = ap (λ (value : Option ℕ). option_map_or (λ (x : ℕ). compared comparison x n) value false) (same operand none)
-words_decide v w same (Not f) none = ap (λ (b : Bool). not b) (words_decide v w same f none)
-words_decide v w same (And f g) none =
-    ap₂ (λ (a b : Bool). a && b) (words_decide v w same f (left_part (reads_registers f) (reads_registers g) none)) (words_decide v w same g (right_part (reads_registers f) (reads_registers g) none))
-words_decide v w same (Or f g) none =
-    ap₂ (λ (a b : Bool). a || b) (words_decide v w same f (left_part (reads_registers f) (reads_registers g) none)) (words_decide v w same g (right_part (reads_registers f) (reads_registers g) none))
 
 same_word : (cond_reads_registers : Bool) (s u : State) (image : List ℕ) → IsSame cond_reads_registers s u → (operand : Operand) → is_register operand ≡ false → value_on u image operand ≡ value_on s image operand
 same_word cond_reads_registers s u image same (PersistedWord word) none = ap (λ (lines : List ℕ). value_of lines image word) same.shape

@@ -1,5 +1,5 @@
 //! How many schedules of a plan come to an end, and how many of these break a condition there.
-ghost use Rattle.std.specs.Prelude.{◌≡◌, ◌+◌, ◌≤◌, IfOk};
+ghost use Rattle.std.specs.Prelude.{◌≡◌, ◌+◌, ◌≤◌, ◌&&◌, not, IfOk};
 ghost use Rattle.machine.specs.Programs.{AreSiblings};
 ghost use Rattle.schedule.specs.Ranges.{max_schedules};
 ghost use Rattle.hunt.specs.Ends.{both_ends, breaks_end, comes_to_end, ends_in, one_end, AreEnds};
@@ -57,6 +57,13 @@ fn one(ended: bool, broken: bool, number: u64) -> EndCounts
     }
 }
 
+/// Whether it came to an end at which the condition is not met.
+fn is_broken(ended: bool, met: bool) -> bool
+    ensures { result ≡ ended && not met }
+{
+    ended && !met
+}
+
 /// What the schedule of a number counts as, which is run on a machine of the same programs.
 fn counted(search: &Search, recovered: bool, own: &mut Machine, number: u64) -> EndCounts
     requires { AreSiblings own.old search.now.machine }
@@ -68,7 +75,7 @@ fn counted(search: &Search, recovered: bool, own: &mut Machine, number: u64) -> 
     let view = own.view();
     let ended = is_end(&view, recovered);
     let met = holds(&search.cond, &view);
-    one(ended, ended && !met, number)
+    one(ended, is_broken(ended, met), number)
 }
 
 /// What the schedules of a range count as, one after another. The number of each is reported to the gate, before it runs and when

@@ -1,7 +1,6 @@
 -- An image has the values that were reached.
-use Rattle.std.proofs.Common.{◌≡◌, ℕ, Bool, false, not, Option, Some, None, List, refl, ap, ap₂}
-use Rattle.std.specs.Prelude.{◌&&◌, ◌||◌, if◌then◌else◌}
-use Rattle.std.specs.Option.{option_map_or}
+use Rattle.std.proofs.Common.{◌≡◌, ℕ, Some, None, List, refl, ap}
+use Rattle.std.specs.Prelude.{if◌then◌else◌}
 use Rattle.lines_layout.specs.Lines.{has_word}
 use Rattle.machine.specs.State.{State}
 use Rattle.pending_images.specs.Changes.{IsReached}
@@ -9,17 +8,10 @@ use Rattle.pending_images.proofs.WordsInImages.{value_read}
 use Rattle.images.specs.Images.{image_at}
 use Rattle.conditions.specs.declared.cond.Operand.{Operand}
 use Rattle.conditions.specs.declared.cond.Operand.TheVariants.{Persisted, Coherent, Register}
-use Rattle.conditions.specs.Formulas.{Formula, Test, Not, And, Or}
-use Rattle.conditions.specs.Truth.{compared, holds_by}
+use Rattle.conditions.specs.Formulas.{Formula}
+use Rattle.conditions.proofs.SameValues.{same_truth}
 use Rattle.images.specs.Truth.{holds_in, holds_on, value_in, value_on, with_persisted}
 use Rattle.images.proofs.CoherentValuesStay.{coherent_stays}
-
--- the same values, the same truth
-same_truth : (v w : Operand → Option ℕ) → ((operand : Operand) → v operand ≡ w operand) → (f : Formula) → holds_by v f ≡ holds_by w f
-same_truth v w same (Test operand comparison n) = ap (λ (value : Option ℕ). option_map_or (λ (x : ℕ). compared comparison x n) value false) (same operand)
-same_truth v w same (Not f) = ap (λ (b : Bool). not b) (same_truth v w same f)
-same_truth v w same (And f g) = ap₂ (λ (a b : Bool). a && b) (same_truth v w same f) (same_truth v w same g)
-same_truth v w same (Or f g) = ap₂ (λ (a b : Bool). a || b) (same_truth v w same f) (same_truth v w same g)
 
 same_values : (s : State) (persisted : List ℕ) → IsReached s.memory persisted → (operand : Operand) → value_on s (image_at s.shape persisted) operand ≡ value_in (with_persisted s persisted) operand
 same_values s persisted reached (Persisted word) = value_read s.shape persisted word

@@ -47,9 +47,12 @@ fn answers(cond: &Cond, view: &View, image: &Image, wanted: bool) -> bool
 fn first_image<'i>(cond: &Cond, view: &View, images: &'i [Image], wanted: bool) -> Option<&'i Image>
     ensures { option_copied result ≡ find (answers wanted view.now cond.now) images.now }
 {
-    images
-        .iter()
-        .find(|image| answers(cond, view, image, wanted))
+    for image in images {
+        if answers(cond, view, image, wanted) {
+            return Some(image);
+        }
+    }
+    None
 }
 
 /// The first of the images for which the condition does not hold, if there is one. Each is read as the

@@ -20,7 +20,8 @@ pub mod laws;
 mod truth;
 
 pub use conditions::{
-    Comparison, Cond, CondFault, MAX_DEPTH, MAX_TOKENS, Operand, TokenFault, Values, read_cond,
+    Comparison, Cond, CondFault, MAX_DEPTH, MAX_TOKENS, Operand, Term, TokenFault, Values,
+    read_cond,
 };
 pub use image_list::{closed_set, count, products, values_of};
 pub use image_truth::{all_images, some_image};

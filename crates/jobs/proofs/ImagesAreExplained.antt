@@ -129,7 +129,7 @@ first_accepted (step ∷ steps) zero s e = refl
 first_accepted (step ∷ steps) (suc n) s e = first_on s (step_of s step) (run_of (take n steps)) (run_of steps) (λ t. first_accepted steps n t) e
 
 -- what has persisted is an image
-now_is_image : (s : State) → IsImage s (image_now (pending_of s))
+pub now_is_image : (s : State) → IsImage s (image_now (pending_of s))
 now_is_image s = (s.memory.persisted, (zero, s.memory, refl, refl), refl)
 
 run_accepted : (asked : Asked) (question : Question) (start : State) (run : List Step) (values : List ℕ) → FailsBy asked question start run values

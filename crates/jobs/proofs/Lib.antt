@@ -13,3 +13,6 @@ pub mod RoomLacks
 pub mod ImagesAreExplained
 pub mod ExplainedRuns
 pub mod FailingPlaces
+pub mod AnswersAreRight
+pub mod QuestionsInTurn
+pub mod QuestionsReported

@@ -15,3 +15,5 @@ pub mod ToldTexts
 pub mod CheckReports
 pub mod OutcomeReports
 pub mod RunCommands
+pub mod Questions
+pub mod QuestionReports

@@ -85,7 +85,7 @@ pub record IsReady (machine : State) : Type 0 where
 abbrev pub fault_of : ExploreFault → Fault
 fault_of runs.TooManyStates = faults.Refused refusals.TooManyStates
 fault_of runs.NoRoom = faults.Refused refusals.NoRoom
-fault_of runs.TooMany = faults.Refused refusals.TooManyImages
+fault_of runs.TooMany = faults.Refused refusals.TooManyInRun
 fault_of runs.NoMemory = missing stages.Exploration
 
 -- the one report that a verdict has

@@ -2,12 +2,15 @@
 //! written.
 ghost use Rattle.commands.specs.Devices.{CanCountOneMore};
 ghost use Rattle.commands.specs.Serving.{Serves, used};
+ghost use Rattle.jobs.specs.QuestionReports.{ask_command};
 ghost use Rattle.jobs.specs.RunCommands.{check_command, outcomes_command};
 
 use crate::check_report::report_check;
 use crate::outcome_list::report_outcomes;
+use crate::question_report::report_questions;
 use commands::{
-    CheckOptions, Fault, OutcomesOptions, Sink, Source, Status, read_sources, write_report,
+    CheckOptions, Fault, OutcomesOptions, QuestionOptions, Sink, Source, Status, read_sources,
+    write_report,
 };
 use std::alloc::Global;
 use workers::Gate;
@@ -40,6 +43,33 @@ pub fn check<P: Source, S: Source, W: Sink, G: Gate>(
 {
     let sources = read_sources(alloc, true, program, steps)?;
     let report = report_check(alloc, options, &sources, gate)?;
+    write_report(out, &report)
+}
+
+/// Asks the questions of a program of every run: reads the program, and then the steps, to their ends, makes the report of the
+/// answers, and then writes it. The gate is told the same as by [`check`], of each exploration: of one for each question, and of
+/// one more for a left side where what the question asks holds.
+///
+/// # Errors
+///
+/// Those of [`check`], but of conditions; a fault of the questions; usage, where no question has the name that is asked for. R1, R2
+/// and I1 are those of the first question that is not told.
+#[tactic(auto, using(commands::proofs::ServedCommands::served), unfolding(crate::specs::QuestionReports::ask_command))]
+pub fn ask<P: Source, S: Source, W: Sink, G: Gate>(
+    alloc: Global,
+    options: &QuestionOptions<'_>,
+    program: &mut P,
+    steps: &mut S,
+    out: &mut W,
+    gate: &G,
+) -> Result<Status, Fault>
+    requires program { CanCountOneMore (P.device program.old) }
+    requires steps { CanCountOneMore (S.device steps.old) }
+    requires out { CanCountOneMore (W.device out.old) }
+    ensures { Serves (ask_command options.now) (used P.device program.old program.new) (used S.device steps.old steps.new) (used W.device out.old out.new) result }
+{
+    let sources = read_sources(alloc, true, program, steps)?;
+    let report = report_questions(alloc, options, &sources, gate)?;
     write_report(out, &report)
 }
 

@@ -157,7 +157,7 @@ fn push_explained(
 }
 
 /// The steps of the run, and what explains it, where these are asked for.
-fn behind_failed(
+pub(crate) fn behind_failed(
     alloc: Global,
     options: &CheckOptions<'_>,
     start: &Start,

@@ -2,15 +2,17 @@
 //! `replay`, `asm` and `dis`; and those that explore every run of a program, `check` and `outcomes`.
 //!
 //! Promise: [`job`] does `command_of` a job; [`check`] does `check_command`, [`list_outcomes`] does `outcomes_command`. A report of
-//! these two is made of a verdict on every run; any verdict that is right may be reported.
+//! these two is made of a verdict on every run; any verdict that is right may be reported. [`ask`] does `ask_command`: each question
+//! of a program has an answer that is right of every run (`IsAnswer`).
 //! What `run`, `images`, `law` and `replay` find is an [`Answer`] with its status ([`find_run`], ..), whatever [`Form`] prints it:
 //! [`print`] makes `command_work`.
 //! Definitions: `specs/Forms`, `Answers`, `Reports`; `ImageReports`, `ImagesTold` (an image that `images` explains), `Traces`, `NextSteps`,
 //! `Values` (what `--set` reads), `PairTexts`; of every run `Starts` (what an exploration begins with), `Given`, `Crashes`, `Explained`, `ToldTexts`,
-//! `CheckReports`, `OutcomeReports`, `RunCommands`. What is said of an image is of `commands`.
+//! `CheckReports`, `OutcomeReports`, `RunCommands`; `Questions` (their answers), `QuestionReports`. What is said of an image is of `commands`.
 #![tactic(auto)]
 
 mod all_runs;
+mod asking;
 mod check_report;
 mod closed_set;
 mod command;
@@ -33,6 +35,11 @@ mod order;
 mod outcome_list;
 mod outcome_text;
 mod question;
+mod question_answer;
+mod question_asked;
+mod question_lines;
+mod question_report;
+mod questions_asked;
 mod replay;
 mod report;
 mod run;
@@ -44,7 +51,8 @@ mod unreached;
 mod values;
 mod verdict;
 
-pub use all_runs::{check, list_outcomes};
+pub use all_runs::{ask, check, list_outcomes};
+pub use asking::{Asking, asking_start};
 pub use closed_set::{LeastSet, find_set};
 pub use command::job;
 pub use explained::{CrashTold, Explained, explanation_of};
@@ -60,6 +68,9 @@ pub use next::{next_status, next_text, push_next};
 pub use next_list::next_steps;
 pub use order::find_pair;
 pub use outcome_list::outcomes_asked;
+pub use question_answer::{Answered, QuestionAnswer, QuestionsFound, answers_status};
+pub use question_report::print_found;
+pub use questions_asked::{find_answers, run_options};
 pub use replay::{Scheduled, find_schedule};
 pub use report::report_on;
 pub use run::{Ran, find_run, status_of};

@@ -52,8 +52,8 @@ fn check_question(
     })
 }
 
-/// What `outcomes` is asked.
-fn no_condition(crashes: bool) -> Question
+/// No condition.
+pub(crate) fn no_condition(crashes: bool) -> Question
     ensures { result ≡ no_condition crashes }
 {
     Question {
@@ -89,7 +89,12 @@ fn ready_machine(alloc: Global, object: &Object, steps: &[Step]) -> Result<Machi
 
 /// A program, what is asked, what was given, and its machine after the given steps.
 #[tactic(auto, using(commands::proofs::WorksInTurn::turns))]
-fn start_on(alloc: Global, object: Object, question: Question, given: Given) -> Result<Start, Fault>
+pub(crate) fn start_on(
+    alloc: Global,
+    object: Object,
+    question: Question,
+    given: Given,
+) -> Result<Start, Fault>
     ensures start { Makes (start_on object question given) result }
     ensures ready { IfOk result (λ start. IsReady start.machine) }
 {

@@ -35,7 +35,7 @@ pub fn fault_of(fault: ExploreFault) -> Fault
     match fault {
         ExploreFault::TooManyStates => Fault::Refused(Refused::TooManyStates),
         ExploreFault::NoRoom => Fault::Refused(Refused::NoRoom),
-        ExploreFault::TooMany => Fault::Refused(Refused::TooManyImages),
+        ExploreFault::TooMany => Fault::Refused(Refused::TooManyInRun),
         ExploreFault::NoMemory => Stage::Exploration.missing(),
     }
 }

@@ -5,3 +5,4 @@ pub mod RunsEndAsText
 pub mod Pairs
 pub mod HuntsEndAsText
 pub mod ExplainedRuns
+pub mod QuestionsAsJson

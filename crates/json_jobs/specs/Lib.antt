@@ -9,3 +9,4 @@ pub mod TallyData
 pub mod HuntData
 pub mod LiveData
 pub mod JsonForm
+pub mod QuestionData

@@ -2,13 +2,15 @@
 ghost use Rattle.std.specs.Prelude.{Ok};
 ghost use Rattle.commands.specs.Devices.{CanCountOneMore};
 ghost use Rattle.commands.specs.Serving.{MakesReport, Serves, used};
+ghost use Rattle.json_jobs.specs.QuestionData.{ask_command};
 ghost use Rattle.json_jobs.specs.RunReports.{check_command, outcomes_command};
 
 use crate::check_report::CheckJson;
 use crate::outcome_report::OutcomesJson;
+use crate::question_value::report_questions;
 use commands::{
-    CheckOptions, Fault, OutcomesOptions, Report, Sink, Source, Sources, Status, read_sources,
-    write_report,
+    CheckOptions, Fault, OutcomesOptions, QuestionOptions, Report, Sink, Source, Sources, Status,
+    read_sources, write_report,
 };
 use jobs::{check_start, outcomes_start, report_from};
 use std::alloc::Global;
@@ -50,6 +52,30 @@ pub fn check<P: Source, S: Source, W: Sink, G: Gate>(
 {
     let sources = read_sources(alloc, true, program, steps)?;
     let report = report_check(alloc, options, &sources, gate)?;
+    write_report(out, &report)
+}
+
+/// Asks the questions of a program of every run, and writes the report as JSON.
+///
+/// # Errors
+///
+/// Those of [`jobs::ask`].
+#[tactic(auto, using(commands::proofs::ServedCommands::served), unfolding(crate::specs::QuestionData::ask_command))]
+pub fn ask<P: Source, S: Source, W: Sink, G: Gate>(
+    alloc: Global,
+    options: &QuestionOptions<'_>,
+    program: &mut P,
+    steps: &mut S,
+    out: &mut W,
+    gate: &G,
+) -> Result<Status, Fault>
+    requires program { CanCountOneMore (P.device program.old) }
+    requires steps { CanCountOneMore (S.device steps.old) }
+    requires out { CanCountOneMore (W.device out.old) }
+    ensures { Serves (ask_command options.now) (used P.device program.old program.new) (used S.device steps.old steps.new) (used W.device out.old out.new) result }
+{
+    let sources = read_sources(alloc, true, program, steps)?;
+    let report = report_questions(alloc, options, &sources, gate)?;
     write_report(out, &report)
 }
 

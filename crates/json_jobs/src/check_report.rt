@@ -265,7 +265,7 @@ fn explained_by(
 }
 
 /// The same where it is asked why the run breaks the condition.
-fn explained_or_null(
+pub(crate) fn explained_or_null(
     alloc: Global,
     options: &CheckOptions<'_>,
     start: &Start,
@@ -282,7 +282,11 @@ fn explained_or_null(
 }
 
 /// The lines of the instructions that the steps of the run execute.
-fn run_lines(alloc: Global, start: &Start, failure: &Failure) -> Result<Value, AllocError>
+pub(crate) fn run_lines(
+    alloc: Global,
+    start: &Start,
+    failure: &Failure,
+) -> Result<Value, AllocError>
     ensures { IfOk result (IsJsonOf (run_lines start.now failure.now)) }
 {
     let mut machine = start.machine.copy(alloc)?;

@@ -1,6 +1,6 @@
 //! Tests of the layers below commands and threads: words and layouts, the table of kept order, store buffers, pending
 //! lists, processors, programs as bytes, the lines of litmus texts, sheets, machines, crash images, the writes that are missing there,
-//! conditions in parts, programs with an instruction more, the memories at the fences of a program, the steps that a
+//! conditions in parts and of two terms, programs with an instruction more, the memories at the fences of a program, the steps that a
 //! state enables, the runs that are told where one fails, and the debugger's sessions. They are of public calls that no command
 //! makes, of values that no report says, of stops and watchers that are other code than the commands', and of how many steps
 //! going back replays.
@@ -65,5 +65,7 @@ mod taking_no_memory;
 mod text_lines;
 #[cfg(test)]
 mod turns;
+#[cfg(test)]
+mod two_sides;
 #[cfg(test)]
 mod watchers;

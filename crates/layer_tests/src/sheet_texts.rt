@@ -1,5 +1,5 @@
-//! Sheets: copies, constants and addresses, the lines of instructions in copies, and faults. The texts that are told were worked out
-//! by hand.
+//! Sheets: copies, constants and addresses, the lines of instructions in copies, faults, and lines of questions. The texts that are
+//! told were worked out by hand.
 use litmus_text::{TextLines, write_litmus};
 use sheets::{is_sheet, read_sheet};
 use std::alloc::Global;
@@ -26,10 +26,10 @@ fn push_lines(alloc: Global, text: &mut String, lines: &TextLines, p: usize) -> 
 /// What a sheet says as a litmus text, and the lines of three processors; or its fault.
 fn told(alloc: Global, text: &[u8]) -> Result<String, Fail> {
     match read_sheet(alloc, text) {
-        Ok(lined) => {
-            let mut out = write_litmus(alloc, &lined.object)?;
+        Ok(read) => {
+            let mut out = write_litmus(alloc, &read.lined.object)?;
             for p in 0..3 {
-                push_lines(alloc, &mut out, &lined.lines, p)?;
+                push_lines(alloc, &mut out, &read.lined.lines, p)?;
             }
             Ok(out)
         }
@@ -89,7 +89,7 @@ fn is_told(alloc: Global, text: &str, wanted: &str) -> Result<bool, Fail> {
 }
 
 /// Sheets with a fault, and what is told of it.
-const FAULTS: [(&str, &str); 17] = [
+const FAULTS: [(&str, &str); 19] = [
     (
         "sheet 1\ncpu * 2\nmov rax, A$\nend",
         "X2 UnknownName line 3",
@@ -118,7 +118,9 @@ const FAULTS: [(&str, &str); 17] = [
         "sheet 1\ncpu * 2\nrecover 1\nxor\nend\nlet X",
         "X1 BadWord line 4",
     ),
-    ("sheet 1\ncpu\nend\nlet X", "X1 BadWord line 4"),
+    ("sheet 1\nlet X", "X1 BadWord line 2"),
+    ("sheet 1\ncpu\nlet x\nend", "X1 BadWord line 3"),
+    ("sheet 1\ncpu\njmp a\nend\nlet X", "X4 BadLabel line 3"),
 ];
 
 /// Whether each of these faults is told.
@@ -134,5 +136,25 @@ fn are_told(alloc: Global, faults: &[(&str, &str)]) -> Result<bool, Fail> {
 #[test]
 fn faults_are_told_of_lines_of_the_sheet(rt: HostRuntime) -> Result<(), Fail> {
     assert!(rt; are_told(rt.alloc(), &FAULTS)?);
+    Ok(())
+}
+
+/// A sheet with lines of questions, of which the program says nothing. They need not have a meaning.
+const ASKED: &[u8] = b"sheet 1\nconst K 3\nline x\ncpu\nend\n# one\n\tlet a # two\n\nend\xff\ncpu";
+
+#[test]
+fn questions_are_kept_as_they_stand(rt: HostRuntime) -> Result<(), Fail> {
+    match read_sheet(rt.alloc(), ASKED) {
+        Ok(read) => {
+            assert!(rt; read.items.first == 7);
+            assert!(rt;
+                read.items.rows.as_slice() == b"\tlet a # two\n\nend\xff\ncpu\n".as_slice()
+            );
+            assert!(rt; matches!(read.names.number(b"K"), Ok(3)));
+            assert!(rt; matches!(read.names.number(b"&x"), Ok(4096)));
+            assert!(rt; read.names.number(b"&y").is_err());
+        }
+        Err(_) => assert!(rt; false),
+    }
     Ok(())
 }

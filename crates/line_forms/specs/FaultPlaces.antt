@@ -7,7 +7,7 @@ use Rattle.lines_layout.specs.Names.{is_name}
 use Rattle.lines_layout.specs.declared.fault.LayoutFault.TheVariants.{TooManyLines, LineTooLong, DoubleName, BadName}
 use Rattle.litmus_text.specs.declared.fault.LineFault.{LineFault}
 use Rattle.litmus_text.specs.declared.fault.LineFault.TheVariants as faults
-use Rattle.litmus_text.specs.declared.fault.LineFault.TheVariants.{BadWord, UnknownName, BadNumber, BadLabel, TooLong, MissingEnd, NotAscii, Layout}
+use Rattle.litmus_text.specs.declared.fault.LineFault.TheVariants.{BadWord, UnknownName, BadNumber, BadLabel, TooLong, MissingEnd, NotAscii, Layout, BadCond}
 use Rattle.text_tokens.specs.Cursors.{Token}
 use Rattle.text_tokens.specs.Text.{tokens_of}
 use Rattle.line_forms.specs.declared.places.Place.{Place}
@@ -87,3 +87,4 @@ IsFaultPlace above line forms (Layout LineTooLong) place = IsToken line (line_wo
 IsFaultPlace above line forms (Layout DoubleName) place = IsToken line (double_index above (tokens_of line)) place
 IsFaultPlace above line forms (Layout BadName) place = IsToken line (bad_index (tokens_of line)) place
 IsFaultPlace above line forms faults.BadName place = IsToken line 1 place
+IsFaultPlace above line forms BadCond place = IsToken line 0 place

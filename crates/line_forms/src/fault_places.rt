@@ -30,7 +30,7 @@ fn line_or_empty(text: &[u8], number: usize) -> &[u8]
 
 /// The place, on the line of this number, from 1, of a fault of the text: of a token that no form has there; of an
 /// unknown name; of a number, a label or a name of a cache line that is wrong; of the first token where the line is one
-/// too many; of the first byte that may not be there; of the second token where a sheet's constant is wrong; and after the line
+/// too many; of the first byte that may not be there; of the second token where a sheet's constant is wrong, and of the first of its questions; and after the line
 /// where the text ends too soon.
 pub fn fault_place(text: &[u8], number: usize, kind: LineFault) -> Place
     ensures within { IsWithin (line_of text.now number) result }
@@ -52,6 +52,7 @@ pub fn fault_place(text: &[u8], number: usize, kind: LineFault) -> Place
         }
         LineFault::Layout(LayoutFault::BadName) => token_or_end(line, first_bad(line)),
         LineFault::BadName => token_or_end(line, 1),
+        LineFault::BadCond => token_or_end(line, 0),
     }
 }
 

@@ -5,3 +5,4 @@ mod Numbers
 mod Questions
 mod Requests
 mod WentOn
+mod CheckSteps

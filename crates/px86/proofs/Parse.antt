@@ -17,7 +17,7 @@ use Rattle.commands.specs.declared.jobs.ScheduleJob.TheVariants as schedules
 use Rattle.commands.specs.declared.jobs.Task.{Task}
 use Rattle.commands.specs.declared.jobs.Task.TheVariants.{Schedules}
 use Rattle.px86.specs.Commands.{command_line, command_named}
-use Rattle.px86.specs.CommandLines.{asks_text, declined_by, declined_of, Asks, AsksFor, AsksForThreads, AsksIn, IsRefusedFor, IsTallyJob, IsTallyOf, IsTaskOf}
+use Rattle.px86.specs.CommandLines.{asks_text, declined_by, declined_of, Asks, AsksFor, AsksForThreads, AsksIn, has_question, IsCheckTask, IsRefusedFor, IsTallyJob, IsTallyOf, IsTaskOf}
 use Rattle.px86.specs.declared.command.Command.{Command}
 use Rattle.px86.specs.declared.command.Command.TheVariants.{Asm, Dis, Run, Trace, Next, Law, Debug, Images, Replay, Check, Outcomes, Tally, Hunt, Fences, Mend, Live}
 use Rattle.px86.specs.Starts.{Declines}
@@ -99,6 +99,11 @@ run_alone rows (schedules.Losses options) is = tt
 run_alone rows (schedules.Ends options) is = tt
 run_alone rows (schedules.Hunt options) is = absurd (no_hunt (first_of (codes "all") rows) (first_of (codes "ends") rows) (first_of (codes "recovered") rows) options is.0)
 
+-- nor do all runs take threads
+check_alone : (asks : Bool) (rows : List Row) (task : Task) → IsCheckTask asks rows task → AsksForThreads task
+check_alone true rows task is = rw is.2 tt
+check_alone false rows task is = rw is.2 tt
+
 -- what a parse of a command found asks for as many threads as there may be
 threads_of : (command : Command) (rows : List Row) (task : Task) → IsTaskOf command rows task → AsksForThreads task
 threads_of Asm rows task is = rw is tt
@@ -110,7 +115,7 @@ threads_of Law rows task is = rw is tt
 threads_of Debug rows task is = rw is.1 tt
 threads_of Images rows task is = rw is.2 tt
 threads_of Replay rows task is = rw is.2 tt
-threads_of Check rows task is = rw is.2 tt
+threads_of Check rows task is = check_alone (has_question rows) rows task is
 threads_of Outcomes rows task is = rw is.2 tt
 threads_of Tally rows task is = rw is.2 (run_alone rows is.0 is.1)
 threads_of Hunt rows task is = rw is.2 is.1.workers.1

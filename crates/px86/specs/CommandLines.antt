@@ -19,6 +19,7 @@ use Rattle.commands.specs.declared.jobs.Task.TheVariants.{Do, Schedules}
 use Rattle.commands.specs.declared.jobs.ImagesOptions.{ImagesOptions}
 use Rattle.commands.specs.declared.jobs.AskedRuns.{AskedRuns}
 use Rattle.commands.specs.declared.jobs.CheckOptions.{CheckOptions}
+use Rattle.commands.specs.declared.jobs.QuestionOptions.{QuestionOptions}
 use Rattle.commands.specs.declared.jobs.OutcomesOptions.{OutcomesOptions}
 use Rattle.commands.specs.declared.jobs.Demand.{Demand}
 use Rattle.commands.specs.declared.jobs.Demand.TheVariants.{Cond, Ends, Recovered, All}
@@ -236,9 +237,10 @@ lacks_recovery rows = is_given (codes "before-crash") rows && has_value (codes "
 abbrev pub lacks_condition : List Row → Bool
 lacks_condition rows = is_given (codes "explain-image") rows && not (has_condition rows)
 
--- whether it found a question of recovery that is not explored, or a run to be explained where there is none
+-- whether it found a question of recovery that is not explored, a run to be explained where there is none, or the name of a question of
+-- the program, which is asked where no condition is
 abbrev pub asks_beyond : List Row → Bool
-asks_beyond rows = lacks_recovery rows || lacks_condition rows
+asks_beyond rows = lacks_recovery rows || (lacks_condition rows || has_value (codes "only") rows)
 
 -- The options of `check` that a parse found: something is asked, and no more than can be told.
 pub record AreCheckOptions (rows : List Row) (options : CheckOptions) : Type 0 where
@@ -254,6 +256,19 @@ pub record AreCheckOptions (rows : List Row) (options : CheckOptions) : Type 0 w
   pub names : options.names ≡ is_given (codes "names") rows
   pub as_steps : options.as_steps ≡ is_given (codes "as-steps") rows
   pub explains_image : options.explains_image ≡ is_given (codes "explain-image") rows
+
+-- whether it found what a condition alone is reported with: `--names` or `--as-steps`
+abbrev pub needs_condition : List Row → Bool
+needs_condition rows = is_given (codes "names") rows || is_given (codes "as-steps") rows
+
+-- The options of `check` that a parse found where it asks the questions of the program: it found no condition, and nothing that needs one.
+pub record AreQuestionOptions (rows : List Row) (options : QuestionOptions) : Type 0 where
+  pub within : needs_condition rows ≡ false
+  pub before_crash : options.before_crash ≡ is_given (codes "before-crash") rows
+  pub states : IsCountOr (2 ^ 64) default_states (first_of (codes "states") rows) options.states
+  pub show : options.show ≡ is_given (codes "show") rows
+  pub explains_image : options.explains_image ≡ is_given (codes "explain-image") rows
+  pub only : first_of (codes "only") rows ≡ option_copied options.only
 
 -- The options of `outcomes` that a parse found.
 pub record AreOutcomesOptions (rows : List Row) (options : OutcomesOptions) : Type 0 where
@@ -315,6 +330,11 @@ IsDebugTask rows task = (talks_in_json rows ≡ false) × (task ≡ tasks.Debug)
 abbrev pub IsMadeOf : {A : Type 0} → (A → Task) → (A → Type 0) → Task → Type 0
 IsMadeOf {A} make P task = (asked : A) × P asked × (task ≡ make asked)
 
+-- A parse of `check` found that it asks this: what its options ask, or the questions of the program, where these ask nothing.
+abbrev pub IsCheckTask : Bool → List Row → Task → Type 0
+IsCheckTask true rows task = IsMadeOf (λ options. tasks.Check options) (AreCheckOptions rows) task
+IsCheckTask false rows task = IsMadeOf (λ options. tasks.Ask options) (AreQuestionOptions rows) task
+
 -- A parse of a command that found these rows asks for this task.
 abbrev pub IsTaskOf : Command → List Row → Task → Type 0
 IsTaskOf Asm rows task = task ≡ Do jobs.Asm
@@ -326,7 +346,7 @@ IsTaskOf Law rows task = task ≡ Do jobs.Law
 IsTaskOf Debug rows task = IsDebugTask rows task
 IsTaskOf Images rows task = IsMadeOf Do (IsImagesJob rows) task
 IsTaskOf Replay rows task = IsMadeOf (λ options. Do (jobs.Replay options)) (IsSchedule rows) task
-IsTaskOf Check rows task = IsMadeOf (λ options. tasks.Check options) (AreCheckOptions rows) task
+IsTaskOf Check rows task = IsCheckTask (has_question rows) rows task
 IsTaskOf Outcomes rows task = IsMadeOf (λ options. tasks.Outcomes options) (AreOutcomesOptions rows) task
 IsTaskOf Tally rows task = IsMadeOf Schedules (IsTallyJob rows) task
 IsTaskOf Hunt rows task = IsMadeOf (λ options. Schedules (schedules.Hunt options)) (AreHuntOptions rows) task
@@ -349,10 +369,18 @@ IsScript false steps none input = IsInput steps none input
 IsScript true None false input = input ≡ inputs.Console
 IsScript true _ _ input = ⊥
 
+-- Where the steps of `check` come from, by whether something is asked by its options, and by the same: where the questions of the program
+-- are asked, the standard input is not read.
+abbrev pub IsCheckInput : Bool → Option Text → Bool → Input → Type 0
+IsCheckInput true steps none input = IsInput steps none input
+IsCheckInput false None none input = input ≡ inputs.Nothing
+IsCheckInput false (Some name) none input = IsInput (Some name) none input
+
 -- The same, of what a parse found of a command; from nowhere, where it has no steps.
 abbrev pub IsInputOf : Reads → List Row → Input → Type 0
 IsInputOf reads.Nothing rows input = input ≡ inputs.Nothing
 IsInputOf reads.Steps rows input = IsInput (first_of (codes "steps") rows) (is_given (codes "no-steps") rows) input
+IsInputOf reads.Asked rows input = IsCheckInput (has_question rows) (first_of (codes "steps") rows) (is_given (codes "no-steps") rows) input
 IsInputOf reads.Script rows input =
     IsScript (is_given (codes "interactive") rows) (first_of (codes "steps") rows) (is_given (codes "no-steps") rows) input
 

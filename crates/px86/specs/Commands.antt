@@ -38,6 +38,7 @@ needed name = record (value name) { required = true }
 abbrev pub input_options : Reads → List Rule
 input_options reads.Nothing = []
 input_options reads.Steps = value (codes "steps") ∷ flag (codes "no-steps") ∷ []
+input_options reads.Asked = value (codes "steps") ∷ flag (codes "no-steps") ∷ []
 input_options reads.Script = value (codes "steps") ∷ flag (codes "no-steps") ∷ []
 
 -- the options of a plan of schedules
@@ -74,9 +75,9 @@ row_of Images = row (codes "images") reads.Steps
     (flag (codes "count") ∷ flag (codes "names") ∷ value (codes "all") ∷ value (codes "some") ∷ value (codes "set")
     ∷ flag (codes "explain-image") ∷ flag (codes "json") ∷ [])
 row_of Replay = row (codes "replay") reads.Steps (plan_options ++ flag (codes "lazy") ∷ needed (codes "number") ∷ flag (codes "json") ∷ [])
-row_of Check = row (codes "check") reads.Steps
+row_of Check = row (codes "check") reads.Asked
     (value (codes "all") ∷ value (codes "ends") ∷ value (codes "recovered") ∷ flag (codes "images") ∷ flag (codes "before-crash")
-    ∷ value (codes "states") ∷ flag (codes "show") ∷ flag (codes "names") ∷ flag (codes "as-steps")
+    ∷ value (codes "states") ∷ value (codes "only") ∷ flag (codes "show") ∷ flag (codes "names") ∷ flag (codes "as-steps")
     ∷ flag (codes "explain-image") ∷ flag (codes "progress") ∷ flag (codes "json") ∷ [])
 row_of Outcomes = row (codes "outcomes") reads.Steps
     (flag (codes "recovered") ∷ value (codes "states") ∷ flag (codes "progress") ∷ flag (codes "json") ∷ [])

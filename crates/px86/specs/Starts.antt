@@ -3,7 +3,7 @@ use Rattle.std.specs.Prelude.{◌≡◌, ◌≢◌, ◌⊎◌, ⊤, ℕ, Bool, t
 use Rattle.std.specs.String.{string_bytes}
 use Rattle.std.specs.declared.string.String.{String}
 use Rattle.commands.specs.declared.jobs.Task.{Task}
-use Rattle.commands.specs.declared.jobs.Task.TheVariants.{Do, Schedules, Live, Debug, Check, Outcomes, Fences, Mend}
+use Rattle.commands.specs.declared.jobs.Task.TheVariants.{Do, Schedules, Live, Debug, Check, Ask, Outcomes, Fences, Mend}
 use Rattle.clap.specs.Words.{Text, fault_of}
 use Rattle.commands.specs.declared.fault.Fault.{Fault}
 use Rattle.commands.specs.declared.fault.Stage.TheVariants as stages
@@ -18,8 +18,10 @@ use Rattle.thread_jobs.specs.TextReports.{text_journals, text_reports}
 use Rattle.thread_jobs.specs.ThreadReports.{live_command, work_command}
 use Rattle.debug_scripts.specs.DebugPlans.{debug_command}
 use Rattle.conversations.specs.Conversing.{ConversesOn}
+use Rattle.jobs.specs.QuestionReports.{ask_command}
 use Rattle.jobs.specs.RunCommands.{check_command, outcomes_command}
 use Rattle.json_jobs.specs.JsonAnswers.{json_command_of}
+use Rattle.json_jobs.specs.QuestionData as json_questions
 use Rattle.json_jobs.specs.RunReports as json_runs
 use Rattle.json_jobs.specs.JsonForm.{json_reports}
 use Rattle.json_jobs.specs.LiveData.{json_journals}
@@ -48,6 +50,7 @@ lines_command moves (Schedules job) = work_command text_reports job
 lines_command moves (Live threads) = live_command text_journals threads
 lines_command moves Debug = debug_command
 lines_command moves (Check options) = check_command options
+lines_command moves (Ask options) = ask_command options
 lines_command moves (Outcomes options) = outcomes_command options
 lines_command moves (Fences options) = fences_command mend_texts.text_reports options
 lines_command moves (Mend options) = mend_command mend_texts.text_reports moves options
@@ -59,6 +62,7 @@ json_command moves (Schedules job) = work_command json_reports job
 json_command moves (Live threads) = live_command json_journals threads
 json_command moves Debug = json_scripts.debug_command
 json_command moves (Check options) = json_runs.check_command options
+json_command moves (Ask options) = json_questions.ask_command options
 json_command moves (Outcomes options) = json_runs.outcomes_command options
 json_command moves (Fences options) = fences_command mend_data.json_reports options
 json_command moves (Mend options) = mend_command mend_data.json_reports moves options

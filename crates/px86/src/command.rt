@@ -12,6 +12,8 @@ pub enum Reads {
     Nothing,
     /// It makes a list of steps, and reads the standard input.
     Steps,
+    /// It makes a list of steps, and reads the standard input where its options ask a condition or images.
+    Asked,
     /// It plays a script, and reads the standard input.
     Script,
 }
@@ -462,7 +464,7 @@ const REPLAY: &CommandRow = &CommandRow {
 const CHECK: &CommandRow = &CommandRow {
     name: "check",
     about: "Make the steps, then explore every run after them, and check conditions",
-    reads: Reads::Steps,
+    reads: Reads::Asked,
     options: &[
         ALL,
         ENDS,
@@ -473,6 +475,7 @@ const CHECK: &CommandRow = &CommandRow {
         ),
         BEFORE_CRASH,
         STATES,
+        value!("only", "NAME", "Ask the question of this name alone"),
         flag!("show", "Print the steps of the run that was found too"),
         flag!("names", "Name the words above the values"),
         flag!(
@@ -622,7 +625,7 @@ impl Reads {
     {
         match self {
             Reads::Nothing => &[],
-            Reads::Steps | Reads::Script => STEPS,
+            Reads::Steps | Reads::Asked | Reads::Script => STEPS,
         }
     }
 }

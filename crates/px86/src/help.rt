@@ -100,7 +100,17 @@ Example, with no steps before the schedule:
 
 /// What is under the help of `check`.
 pub(crate) const CHECKS: &str = "\
-One of --all, --ends, --recovered and --images is given at least; conditions are those of `px86 images`.
+With --all, --ends, --recovered or --images this is asked; conditions are those of `px86 images`. Without
+one the questions of FILE are, a sheet: `every crash NAME: CONDITION` and so on. No steps are then read
+but those of --steps FILE. The report has a line for each question, in order:
+  NAME holds         it is so in every state that is asked about
+  NAME fails W=V ..  not in this one: each word with its value, and &WORD for the address of a word
+  NAME found W=V ..  `some`: it is so in this one; or `NAME none`, in none
+  NAME asked of no state, or with --before-crash, of recovery, NAME not asked
+With --show or --explain-image the run of `fails` and `found` is below the line, as of a condition that
+fails. The status is 0 where each answer is `holds`, `found` or `not asked`, and 1 otherwise. Where the
+program has no questions, the report is `nothing asked`, and the status is 1.
+
 A run is any list of accepted steps after those that were given, with any number of crashes. An end is a
 state in which no step but a crash is accepted. Where the steps that were given have crashed, every end
 is one after a crash. All runs are explored.
@@ -128,13 +138,14 @@ be true, or all runs from that crash would keep what is asked. If none was found
   missing too N      how many others are missing; `missing none` where no write is
 Which flushes and fences are to be put in, so that the condition holds, `px86 mend` says.
 
-Where this cannot be told, nothing is reported, and the status is 2:
+Where this cannot be told, nothing is reported, and the status is 5:
   R1 TooManyStates   more than N states: fewer records, --before-crash, a higher N, or `px86 hunt`
   R2 NoRoom          in some run a processor waits for room in the pending list (M8, M9)
   I1 TooMany         images are looked at, and a run reaches a state with over 65,536 candidates
                      (with --before-crash and without --images, the lines alone count that COND asks)
 
 Examples, with no steps before the runs:
+  px86 check transfer.litmus
   px86 check --all 'persisted flag = 0 or persisted item = 7' --no-steps queue.litmus
   px86 check --ends 'reg 0 rax = 1 or reg 1 rax = 1' --before-crash --show --no-steps \\
     store-buffering.litmus

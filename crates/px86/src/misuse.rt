@@ -3,8 +3,9 @@
 use crate::arguments::command_line;
 use crate::command::{Bound, Command, CommandOption};
 use crate::options::{
-    asks_ends, count, demand_of, has_condition, has_value, is_given, lacks_condition, lacks_image,
-    lacks_recovery, lacks_states, number, only_of, small_number, talks_in_json, value,
+    asks_ends, count, demand_of, has_condition, has_question, has_value, is_given, lacks_condition,
+    lacks_image, lacks_recovery, lacks_states, needs_condition, number, only_of, small_number,
+    talks_in_json, value,
 };
 use clap::error::ErrorKind;
 use clap::{ArgMatches, Error};
@@ -104,18 +105,31 @@ fn explained_clash(matches: &ArgMatches<'_>) -> Option<&'static str> {
     }
 }
 
-/// What is said where `check` is asked nothing, or a question that may not be given with `--before-crash`, or why a run breaks
-/// no condition.
-fn check_clash(matches: &ArgMatches<'_>) -> Option<&'static str> {
-    let needs = "check needs --all COND, --ends COND, --recovered COND or --images";
-    let nothing = if is_given(matches, "images") {
-        None
+/// What is said where a question of the program is named beside a condition, or `check` is to report what a condition alone is
+/// reported with.
+fn question_clash(matches: &ArgMatches<'_>) -> Option<&'static str> {
+    if has_question(matches) && has_value(matches, "only") {
+        Some(
+            "--only names a question of the program: it may not be given with --all, --ends, --recovered or --images",
+        )
+    } else if !has_question(matches) && needs_condition(matches) {
+        Some("--names and --as-steps need --all COND, --ends COND, --recovered COND or --images")
     } else {
-        condition_clash(matches, needs)
+        None
+    }
+}
+
+/// What is said where `check` is asked of recovery that is not explored, why a run breaks no condition, or where a question of
+/// the program and a condition are mixed up.
+fn check_clash(matches: &ArgMatches<'_>) -> Option<&'static str> {
+    let explained = if has_question(matches) {
+        explained_clash(matches)
+    } else {
+        None
     };
     recovery_clash(matches)
-        .or(nothing)
-        .or(explained_clash(matches))
+        .or(explained)
+        .or(question_clash(matches))
 }
 
 /// What is said where a place is no place of a program.

@@ -1,9 +1,9 @@
 //! What a parse found of the options of a command.
-ghost use Rattle.std.specs.Prelude.{◌≡◌, ◌^◌, ◌&&◌, not, option_copied};
+ghost use Rattle.std.specs.Prelude.{◌≡◌, ◌^◌, true, option_copied};
 ghost use Rattle.std.specs.List.{starts_with};
 ghost use Rattle.std.specs.Prelude.{codes, nat_eq};
 ghost use Rattle.clap.specs.Words.{first_of, found_of, rows_of};
-ghost use Rattle.px86.specs.CommandLines.{asks_beyond, asks_beyond_lazy, asks_ends, asks_of_all, asks_persisted, default_length, default_states, has_condition, has_question, has_value, is_given, lacks_condition, lacks_image, lacks_recovery, lacks_states, millions_of, talks_in_json, AreCheckOptions, AreHuntOptions, AreNextOptions, AreOptions, AreOutcomesOptions, AreSchedules, AreTraceOptions, Finds, IsCountOr, IsDemand, IsImagesJob, IsNumberIfAny, IsNumberOr, IsPlan, IsSchedule, IsSiteIfAny, IsTallyJob, IsThreadCount, IsThreadCountOr, IsWorkerCount, Spells, SpellsCount};
+ghost use Rattle.px86.specs.CommandLines.{asks_beyond, asks_beyond_lazy, asks_ends, asks_of_all, asks_persisted, default_length, default_states, has_condition, has_question, has_value, is_given, lacks_condition, lacks_image, lacks_recovery, lacks_states, millions_of, needs_condition, talks_in_json, AreCheckOptions, AreHuntOptions, AreNextOptions, AreOptions, AreOutcomesOptions, AreQuestionOptions, AreSchedules, AreTraceOptions, Finds, IsCheckTask, IsCountOr, IsDemand, IsImagesJob, IsNumberIfAny, IsNumberOr, IsPlan, IsSchedule, IsSiteIfAny, IsTallyJob, IsThreadCount, IsThreadCountOr, IsWorkerCount, Spells, SpellsCount};
 
 use crate::command::{
     CRASH_AFTER, CommandOption, FIRST, LENGTH, MENDERS, NUMBER, RUNS, SEED, STATES, THREADS,
@@ -12,8 +12,8 @@ use crate::command::{
 use clap::ArgMatches;
 use commands::{
     AskedSite, CheckOptions, Demand, EndsOptions, HuntOptions, ImagesOptions, Job, LossesOptions,
-    NextOptions, OutcomesOptions, ReplayOptions, ScheduleJob, SetOptions, TallyOptions,
-    TraceOptions, site_named,
+    NextOptions, OutcomesOptions, QuestionOptions, ReplayOptions, ScheduleJob, SetOptions,
+    TallyOptions, Task, TraceOptions, site_named,
 };
 use schedule::Plan;
 use workers::MAX_SEATS;
@@ -454,47 +454,85 @@ pub(crate) fn lacks_condition(matches: &ArgMatches<'_>) -> bool
     explained && !conditions
 }
 
-/// Whether `check` is asked more than it can tell: of recovery where that is not explored, or why a run breaks a condition where
-/// there is none.
+/// Whether `check` is asked more than it can tell: of recovery where that is not explored, why a run breaks a condition where
+/// there is none, or a question of the program beside a condition.
 fn asks_beyond(matches: &ArgMatches<'_>) -> bool
     ensures { result ≡ asks_beyond (rows_of (found_of matches.now)) }
 {
-    lacks_recovery(matches) || lacks_condition(matches)
+    lacks_recovery(matches) || lacks_condition(matches) || has_value(matches, "only")
 }
 
-/// Whether `check` is asked something, and no more than it can tell.
-fn may_check(matches: &ArgMatches<'_>) -> bool
-    ensures { result ≡ (has_question (rows_of (found_of matches.now))
-        && not (asks_beyond (rows_of (found_of matches.now)))) }
+/// Whether the options of `check` ask something: a condition, or images.
+pub(crate) fn has_question(matches: &ArgMatches<'_>) -> bool
+    ensures { result ≡ has_question (rows_of (found_of matches.now)) }
 {
     let all = has_value(matches, "all");
     let ends = has_value(matches, "ends");
     let recovered = has_value(matches, "recovered");
     let images = is_given(matches, "images");
-    (all || ends || recovered || images) && !asks_beyond(matches)
+    all || ends || recovered || images
 }
 
-/// What a parse found that `check` is asked.
-pub(crate) fn check_options<'a>(matches: &ArgMatches<'a>) -> Option<CheckOptions<'a>>
+/// Whether `check` is asked for what a condition alone is reported with.
+pub(crate) fn needs_condition(matches: &ArgMatches<'_>) -> bool
+    ensures { result ≡ needs_condition (rows_of (found_of matches.now)) }
+{
+    let names = is_given(matches, "names");
+    let as_steps = is_given(matches, "as-steps");
+    names || as_steps
+}
+
+/// What a parse found that the questions of a program are asked with.
+fn question_options<'a>(matches: &ArgMatches<'a>) -> Option<QuestionOptions<'a>>
+    ensures { Finds (AreQuestionOptions (rows_of (found_of matches.now))) result }
+{
+    let states = states_of(matches)?;
+    if needs_condition(matches) {
+        return None;
+    }
+    let before_crash = is_given(matches, "before-crash");
+    let explains = is_given(matches, "explain-image");
+    Some(QuestionOptions {
+        before_crash,
+        states,
+        show: is_given(matches, "show"),
+        explains_image: explains,
+        only: value(matches, "only"),
+    })
+}
+
+/// What a parse found that `check` is asked: by its options, or else by the questions of the program.
+pub(crate) fn check_task<'a>(matches: &ArgMatches<'a>) -> Option<Task<'a>>
+    ensures { Finds (IsCheckTask (has_question (rows_of (found_of matches.now))) (rows_of (found_of matches.now))) result }
+{
+    if has_question(matches) {
+        Some(Task::Check(check_options(matches)?))
+    } else {
+        Some(Task::Ask(question_options(matches)?))
+    }
+}
+
+/// What a parse found that `check` is asked by its options, which ask something.
+fn check_options<'a>(matches: &ArgMatches<'a>) -> Option<CheckOptions<'a>>
+    requires { has_question (rows_of (found_of matches.now)) ≡ true }
     ensures { Finds (AreCheckOptions (rows_of (found_of matches.now))) result }
 {
     let states = states_of(matches)?;
-    if may_check(matches) {
-        Some(CheckOptions {
-            all: value(matches, "all"),
-            ends: value(matches, "ends"),
-            recovered: value(matches, "recovered"),
-            images: is_given(matches, "images"),
-            before_crash: is_given(matches, "before-crash"),
-            states,
-            show: is_given(matches, "show"),
-            names: is_given(matches, "names"),
-            as_steps: is_given(matches, "as-steps"),
-            explains_image: is_given(matches, "explain-image"),
-        })
-    } else {
-        None
+    if asks_beyond(matches) {
+        return None;
     }
+    Some(CheckOptions {
+        all: value(matches, "all"),
+        ends: value(matches, "ends"),
+        recovered: value(matches, "recovered"),
+        images: is_given(matches, "images"),
+        before_crash: is_given(matches, "before-crash"),
+        states,
+        show: is_given(matches, "show"),
+        names: is_given(matches, "names"),
+        as_steps: is_given(matches, "as-steps"),
+        explains_image: is_given(matches, "explain-image"),
+    })
 }
 
 /// What a parse found that `outcomes` is asked.

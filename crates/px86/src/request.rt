@@ -5,7 +5,7 @@ ghost use Rattle.std.specs.String.{string_bytes};
 ghost use Rattle.clap.specs.Simple.{subcommand_rows_of};
 ghost use Rattle.clap.specs.Words.{fault_of, first_of, found_of, rows_of, HasMatchesOf};
 ghost use Rattle.px86.specs.Commands.{command_line};
-ghost use Rattle.px86.specs.CommandLines.{declined_of, is_explain, form_of, is_given, Asks, AsksFor, AsksIn, Finds, HasForm, HasFormIn, HasMoves, HasMovesIn, HasProgress, HasProgressIn, IsDebugTask, IsDeclinedFor, IsInput, IsInputOf, IsRefusedFor, IsScript, IsTaskOf};
+ghost use Rattle.px86.specs.CommandLines.{declined_of, has_question, is_explain, form_of, is_given, Asks, AsksFor, AsksIn, Finds, HasForm, HasFormIn, HasMoves, HasMovesIn, HasProgress, HasProgressIn, IsCheckInput, IsDebugTask, IsDeclinedFor, IsInput, IsInputOf, IsRefusedFor, IsScript, IsTaskOf};
 ghost use Rattle.px86.specs.Starts.{is_console, is_standard};
 ghost use Rattle.px86.specs.declared.request.Declined.TheVariants.{NoMemory};
 
@@ -13,8 +13,8 @@ use crate::arguments::command_line;
 use crate::asked_runs::{fences_options, mend_options};
 use crate::command::{Command, Reads};
 use crate::options::{
-    check_options, hunt_options, images_job, is_given, live_count, next_options, outcomes_options,
-    replay_options, talks_in_json, tally_job, trace_options, value, worker_count,
+    check_task, has_question, hunt_options, images_job, is_given, live_count, next_options,
+    outcomes_options, replay_options, talks_in_json, tally_job, trace_options, value, worker_count,
 };
 use clap::error::ErrorKind;
 use clap::{ArgMatches, Error};
@@ -159,7 +159,7 @@ fn task_of<'a>(command: Command, matches: &ArgMatches<'a>) -> Option<Task<'a>>
         Command::Debug => debug_task(matches),
         Command::Images => Some(Task::Do(images_job(matches)?)),
         Command::Replay => Some(Task::Do(Job::Replay(replay_options(matches)?))),
-        Command::Check => Some(Task::Check(check_options(matches)?)),
+        Command::Check => check_task(matches),
         Command::Outcomes => Some(Task::Outcomes(outcomes_options(matches)?)),
         Command::Tally => Some(Task::Schedules(tally_job(matches)?)),
         Command::Hunt => Some(Task::Schedules(ScheduleJob::Hunt(hunt_options(matches)?))),
@@ -179,6 +179,21 @@ fn input_given<'a>(matches: &ArgMatches<'a>) -> Option<Input<'a>>
         (Some(name), false) => Some(Input::File(name)),
         (None, true) => Some(Input::Nothing),
         (Some(_), true) => None,
+    }
+}
+
+/// Where the steps of `check` come from: where the questions of the program are asked, the standard input is not read.
+fn check_input<'a>(matches: &ArgMatches<'a>) -> Option<Input<'a>>
+    ensures { Finds (IsCheckInput (has_question (rows_of (found_of matches.now)))
+        (first_of (codes "steps") (rows_of (found_of matches.now)))
+        (is_given (codes "no-steps") (rows_of (found_of matches.now)))) result }
+{
+    if has_question(matches) {
+        return input_given(matches);
+    }
+    match value(matches, "steps") {
+        None => Some(Input::Nothing),
+        Some(_) => input_given(matches),
     }
 }
 
@@ -204,6 +219,7 @@ fn input_of<'a>(reads: Reads, matches: &ArgMatches<'a>) -> Option<Input<'a>>
     match reads {
         Reads::Nothing => Some(Input::Nothing),
         Reads::Steps => input_given(matches),
+        Reads::Asked => check_input(matches),
         Reads::Script => script_given(matches),
     }
 }

@@ -84,6 +84,7 @@ fn do_on_devices<
         }
         Task::Debug => debug_scripts::debug(alloc, program, steps, out),
         Task::Check(options) => jobs::check(alloc, options, program, steps, out, &resources.gate),
+        Task::Ask(options) => jobs::ask(alloc, options, program, steps, out, &resources.gate),
         Task::Outcomes(options) => {
             jobs::list_outcomes(alloc, options, program, steps, out, &resources.gate)
         }
@@ -138,6 +139,9 @@ fn do_as_json<
         Task::Do(job) => json_jobs::job(alloc, job, program, steps, out),
         Task::Check(options) => {
             json_jobs::check(alloc, options, program, steps, out, &resources.gate)
+        }
+        Task::Ask(options) => {
+            json_jobs::ask(alloc, options, program, steps, out, &resources.gate)
         }
         Task::Outcomes(options) => {
             json_jobs::list_outcomes(alloc, options, program, steps, out, &resources.gate)
@@ -208,7 +212,7 @@ fn work_of(task: &Task<'_>) -> Work {
     match task {
         Task::Fences(options) => Work::Explorations(options.asked.states),
         Task::Mend(options) => Work::Search(options.asked.states),
-        Task::Check(_) | Task::Outcomes(_) => Work::States,
+        Task::Check(_) | Task::Ask(_) | Task::Outcomes(_) => Work::States,
         Task::Schedules(_) | Task::Do(_) | Task::Live(_) | Task::Debug => Work::Schedules,
     }
 }

@@ -32,7 +32,7 @@ pub use schedule::{
 pub use images;
 pub use images::{
     Comparison, Cond, CondFault, Count, Countable, Image, ImageFault, MOST_CANDIDATES, Operand,
-    TokenFault, all_images, holds, read_cond, some_image,
+    Term, TokenFault, all_images, holds, read_cond, some_image,
 };
 
 // Every run, by `explore::check`.

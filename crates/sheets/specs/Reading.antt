@@ -11,6 +11,7 @@ use Rattle.litmus_text.specs.SourceLines.{lines_found}
 use Rattle.litmus_text.specs.TextLines.{TextLines, line_numbered, renumbered}
 use Rattle.isa.specs.Objects.{Object}
 use Rattle.outcomes.specs.Outcomes.{◌>>=◌}
+use Rattle.sheets.specs.declared.reading.SheetRead.{SheetRead}
 use Rattle.sheets.specs.Sheets.{Sheet, read_of}
 
 -- ---- which texts are sheets
@@ -65,3 +66,9 @@ object_of_sheet text = do
 
 abbrev pub lines_of_sheet : List ℕ → TextLines
 lines_of_sheet text = renumbered (read_of text).said.lines (Some (lines_found (litmus_said text)))
+
+-- the same with what its names are, and its questions as they stand
+abbrev pub sheet_read_of : List ℕ → Result SheetRead TextFault
+sheet_read_of text = do
+  lined ← sheet_of text
+  Ok (record { lined = lined; names = (read_of text).names; items = (read_of text).items })

@@ -36,6 +36,14 @@ pub record Block : Type 0 where
 abbrev pub no_block : Block
 no_block = record { first = 0; count = None; line = 0; rows = []; part = parts.Main }
 
+-- The lines from the first question on, as they stand, and the number of the first of them.
+pub record Items : Type 0 where
+  pub first : ℕ
+  pub rows : List ℕ
+
+abbrev pub no_items : Items
+no_items = record { first = 1; rows = [] }
+
 -- What was read of a sheet so far.
 pub record Sheet : Type 0 where
   -- what may come next
@@ -45,12 +53,14 @@ pub record Sheet : Type 0 where
   pub names : Names
   -- the block that goes on, or the last one
   pub block : Block
+  -- its questions
+  pub items : Items
   -- what is wrong with the first line that has a fault of a sheet: from it on nothing is read
   pub fault : Option TextFault
 
 -- before the first line
 abbrev pub empty_sheet : Sheet
-empty_sheet = record { stage = stages.Opening; said = record { text = []; lines = [] }; names = record { layout = []; constants = [] }; block = no_block; fault = None }
+empty_sheet = record { stage = stages.Opening; said = record { text = []; lines = [] }; names = record { layout = []; constants = [] }; block = no_block; items = no_items; fault = None }
 
 -- line n says this
 abbrev pub saying : ℕ → List ℕ → Sheet → Sheet
@@ -253,9 +263,28 @@ head_line_after n s line =
     if not (is_plain_line line) then saying n (line ++ codes "\n") s
     else tokens_after n s (tokens_of line)
 
+-- whether a line of these tokens begins a question, or a name for a condition or a value
+abbrev pub begins_item : List Token → Bool
+begins_item [] = false
+begins_item (first ∷ tokens) = bytes_eq first (codes "let") || (bytes_eq first (codes "every") || bytes_eq first (codes "some"))
+
+-- line n is one of questions: it says an empty line, and is kept
+abbrev pub item_line_after : ℕ → Sheet → List ℕ → Sheet
+item_line_after n s line = saying n (codes "\n") (record s { items = record s.items { rows = s.items.rows ++ line ++ codes "\n" } })
+
+-- with line n questions begin
+abbrev pub items_begun : ℕ → Sheet → Sheet
+items_begun n s = record s { stage = stages.Items; items = record { first = n; rows = [] } }
+
+-- line n behind a block: with the first question no more blocks follow
+unfoldable pub between_after : ℕ → Sheet → List ℕ → Sheet
+between_after n s line = if begins_item (tokens_of line) then item_line_after n (items_begun n s) line else head_line_after n s line
+
 -- line n
 unfoldable pub stage_after : Stage → ℕ → Sheet → List ℕ → Sheet
 stage_after stages.Block n s line = block_line_after n s line
+stage_after stages.Between n s line = between_after n s line
+stage_after stages.Items n s line = item_line_after n s line
 stage_after _ n s line = head_line_after n s line
 
 unfoldable pub line_after : ℕ → Sheet → List ℕ → Sheet

@@ -95,7 +95,7 @@ impl Names {
 
     /// The number that a token is, or stands for.
     #[tactic(auto, unfolding(crate::specs::Abbreviations::number_said))]
-    fn number(&self, token: &[u8]) -> Result<u64, LineFault>
+    pub fn number(&self, token: &[u8]) -> Result<u64, LineFault>
         ensures { result ≡ number_said self.now token.now }
     {
         match self.meant(token)? {

@@ -3,13 +3,26 @@ ghost use Rattle.std.specs.Prelude.{◌≡◌, IfOk};
 ghost use Rattle.outcomes.specs.Calls.{Answers};
 ghost use Rattle.outcomes.specs.Faults.{fault_in};
 ghost use Rattle.text_tokens.specs.Text.{tokens_of};
-ghost use Rattle.sheets.specs.Reading.{begins_sheet, is_sheet, object_told, sheet_of};
+ghost use Rattle.sheets.specs.Reading.{begins_sheet, is_sheet, object_told, sheet_read_of};
 
+use crate::items::Items;
+use crate::names::Names;
 use crate::sheet::Sheet;
 use litmus_text::{LinedObject, TextFault, read_lined};
 use outcomes::OrNoMemory;
 use std::alloc::{AllocError, Global};
 use text_tokens::{Lines, Tokens};
+
+/// What a sheet says.
+#[derive(Drop)]
+pub struct SheetRead {
+    /// The object, and the lines on which its instructions stand.
+    pub lined: LinedObject,
+    /// What its abbreviations stand for.
+    pub names: Names,
+    /// Its questions, as they stand.
+    pub items: Items,
+}
 
 /// Whether the tokens of a line begin with `sheet`; none where it has no tokens.
 fn begins_sheet(line: &[u8]) -> Option<bool>
@@ -45,19 +58,27 @@ fn told(alloc: Global, sheet: &Sheet, lined: LinedObject) -> Result<LinedObject,
     })
 }
 
-/// The object that a sheet says, and the lines on which its instructions stand.
+/// What a sheet says, but for its questions: these are kept as they stand.
 ///
 /// # Errors
 ///
 /// The fault of the lowest line that has one, where the lines of a block are read for one of its processors after another;
 /// or that the text ends too soon; or else the first jump without its label; or that memory ran out.
-pub fn read_sheet(alloc: Global, text: &[u8]) -> Result<LinedObject, OrNoMemory<TextFault>>
-    ensures { Answers fault_in (sheet_of text.now) result }
+pub fn read_sheet(alloc: Global, text: &[u8]) -> Result<SheetRead, OrNoMemory<TextFault>>
+    ensures { Answers fault_in (sheet_read_of text.now) result }
 {
     let mut sheet = Sheet::read(alloc, text)?;
     sheet.finish()?;
     match read_lined(alloc, sheet.text()) {
-        Ok(lined) => Ok(told(alloc, &sheet, lined)?),
+        Ok(lined) => {
+            let lined = told(alloc, &sheet, lined)?;
+            let (names, items) = sheet.into_names();
+            Ok(SheetRead {
+                lined,
+                names,
+                items,
+            })
+        }
         Err(OrNoMemory::Fault(fault)) => Err(OrNoMemory::Fault(sheet.fault_told(fault))),
         Err(OrNoMemory::NoMemory) => Err(OrNoMemory::NoMemory),
     }

@@ -9,10 +9,11 @@ ghost use Rattle.isa.specs.Loadables.{max_processors};
 ghost use Rattle.sheets.specs.Abbreviations.{copies, numbered_copy};
 ghost use Rattle.sheets.specs.Calls.{ReadsRest, ReadsRow, StopsAt};
 ghost use Rattle.sheets.specs.Reading.{fault_told, text_said};
-ghost use Rattle.sheets.specs.Sheets.{block_begun, block_ended, block_line_after, const_after, copies_from, copy_after, copy_from, copy_of, copy_tokens_after, cpu_after, cpu_at, empty_sheet, head_line_after, init_after, init_at, kept, line_after, lines_after, lines_at, next_block, opening_after, other_processors, part_after, plain_after, read_of, recover_after, recovery_begun, row_after, said_after, saying, sheet_from, stage_after, stopped, tokens_after, turned};
+ghost use Rattle.sheets.specs.Sheets.{block_begun, block_ended, between_after, block_line_after, const_after, copies_from, copy_after, copy_from, copy_of, copy_tokens_after, cpu_after, cpu_at, empty_sheet, head_line_after, init_after, init_at, item_line_after, items_begun, kept, line_after, lines_after, lines_at, next_block, opening_after, other_processors, part_after, plain_after, read_of, recover_after, recovery_begun, row_after, said_after, saying, sheet_from, stage_after, stopped, tokens_after, turned};
 
 use crate::block::{Block, Part, ends_block, is_end, is_recover};
 use crate::copy::in_copy;
+use crate::items::{Items, begins_item};
 use crate::names::Names;
 use crate::said::{Said, plain_row, said_row};
 use crate::words::lines_said;
@@ -34,8 +35,10 @@ pub enum Stage {
     Data,
     /// A line of a block.
     Block,
-    /// Another block.
+    /// Another block, or the first question.
     Between,
+    /// A line of questions.
+    Items,
 }
 
 /// What was read of a sheet so far.
@@ -45,6 +48,7 @@ pub struct Sheet {
     said: Said,
     names: Names,
     block: Block,
+    items: Items,
     fault: Option<TextFault>,
 }
 
@@ -53,7 +57,7 @@ impl Model for Sheet {
 
     ghost Value = { Sheet };
 
-    ghost view = { λ s. record { stage = s.stage; said = s.said; names = s.names; block = s.block; fault = s.fault } };
+    ghost view = { λ s. record { stage = s.stage; said = s.said; names = s.names; block = s.block; items = s.items; fault = s.fault } };
 }
 
 /// A line of a sheet that has tokens.
@@ -127,6 +131,7 @@ impl Sheet {
             said: Said::new(alloc),
             names: Names::new(alloc),
             block: Block::none(alloc),
+            items: Items::none(alloc),
             fault: None,
         }
     }
@@ -272,7 +277,7 @@ impl Sheet {
         match self.stage {
             Stage::Opening => self.read_opening(row),
             Stage::Data => self.read_data(row),
-            Stage::Block | Stage::Between => {
+            Stage::Block | Stage::Between | Stage::Items => {
                 if row.first == b"cpu".as_slice() {
                     self.read_cpu(row)
                 } else {
@@ -448,6 +453,32 @@ impl Sheet {
         Ok(())
     }
 
+    /// A line of questions: it says an empty line, and is kept.
+    fn read_item_line(&mut self, number: usize, line: &[u8]) -> Result<(), AllocError>
+        ensures { OnOk result (self.new ≡ item_line_after number self.old line.now) }
+    {
+        self.items.add(line)?;
+        self.said.say(number, b"\n")
+    }
+
+    /// A line behind a block.
+    #[tactic(auto, unfolding(crate::specs::Sheets::between_after))]
+    fn read_between(&mut self, number: usize, line: &[u8]) -> Result<(), AllocError>
+        requires { number < 2 ^ 63 }
+        ensures { OnOk result (self.new ≡ between_after number self.old line.now) }
+    {
+        if begins_item(line) {
+            self.stage = Stage::Items;
+            self.items = Items {
+                first: number,
+                rows: Vec::new(self.alloc()),
+            };
+            self.read_item_line(number, line)
+        } else {
+            self.read_head_line(number, line)
+        }
+    }
+
     /// Line `number`, counted from 1.
     #[tactic(auto, unfolding(crate::specs::Sheets::line_after, crate::specs::Sheets::stage_after))]
     fn read_line(&mut self, number: usize, line: &[u8]) -> Result<(), AllocError>
@@ -459,7 +490,9 @@ impl Sheet {
         }
         match self.stage {
             Stage::Block => self.read_block_line(number, line),
-            Stage::Opening | Stage::Data | Stage::Between => self.read_head_line(number, line),
+            Stage::Between => self.read_between(number, line),
+            Stage::Items => self.read_item_line(number, line),
+            Stage::Opening | Stage::Data => self.read_head_line(number, line),
         }
     }
 
@@ -499,6 +532,14 @@ impl Sheet {
         ensures { result.now ≡ self.now.said.lines }
     {
         &self.said.lines
+    }
+
+    /// What its abbreviations stand for, and its questions.
+    pub fn into_names(self) -> (Names, Items)
+        ensures names { result.0 ≡ self.names }
+        ensures items { result.1 ≡ self.items }
+    {
+        (self.names, self.items)
     }
 
     /// The fault of the sheet, by that of its litmus text.

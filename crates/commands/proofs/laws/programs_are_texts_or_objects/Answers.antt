@@ -9,12 +9,12 @@ returns-clause-only c = λ bytes o fits is. elim (program_is bytes o is) [
   | inl object ↦ inl (c.objects_are_read.ensures.only bytes o fits object)
   | inr text ↦ inr (elim text [
     | inl plain ↦ inl (c.texts_are_read.ensures.only bytes o plain)
-    | inr sheet ↦ inr (sheet.0, c.texts_are_read.ensures.only (litmus_said bytes) o sheet.1)
+    | inr sheet ↦ inr (sheet.0, c.texts_are_read.ensures.only (litmus_said bytes) o sheet.1, sheet.2)
   ])
 ]
 
 pub returns-clause-sheet : goal.returns-clause-sheet
-returns-clause-sheet c = λ bytes o sheet. sheet_is_program bytes o sheet.0 (c.texts_are_read.ensures.text (litmus_said bytes) o sheet.1)
+returns-clause-sheet c = λ bytes o sheet. sheet_is_program bytes o sheet.0 (c.texts_are_read.ensures.text (litmus_said bytes) o sheet.1) sheet.2
 
 pub returns-clause-text : goal.returns-clause-text
 returns-clause-text c = λ bytes o text. text_is_program bytes o text (c.texts_are_read.ensures.text bytes o text)

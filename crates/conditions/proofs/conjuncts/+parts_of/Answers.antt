@@ -1,6 +1,6 @@
 use Rattle.std.proofs.Common.{◌≡◌, ◌∙◌, List, ap, ap₂, subst, sym}
 use Rattle.conditions.specs.Conjuncts.{AreConjuncts, claimed}
-use Rattle.conditions.specs.declared.cond.Node.{Node}
+use Rattle.conditions.specs.declared.tree.Node.{Node}
 use Rattle.conditions.specs.Formulas.{Formula, And, Or, formula}
 use Rattle.conditions.proofs.TakenApart.{and_claimed, or_claimed}
 use Rattle.conditions.proofs.conjuncts.+parts_of.Goals as goal

@@ -1,0 +1,3 @@
+pub mod ReversedLists
+pub mod ItemSteps
+pub mod FirstLines

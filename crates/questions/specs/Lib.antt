@@ -1,0 +1,10 @@
+pub mod Limits
+pub mod Tokens
+pub mod Sums
+pub mod Levels
+pub mod Scopes
+pub mod Bodies
+pub mod BodyCodes
+pub mod Questions
+pub mod Items
+pub mod Reading

@@ -1,0 +1,26 @@
+//! The questions of a sheet: conditions with names, that are asked of every state of a place, or of some.
+//!
+//! Promise: [`read_questioned`] is `questioned_of` the text: the object that a sheet says, the lines of its instructions and its
+//! questions, or its fault.
+//! Definitions: `specs/Questions` (what a question is), `Tokens`, `Scopes` (what tokens may name), `Sums` (values), `Levels` and
+//! `Bodies` (a condition or a value, token by token), `Items` (names and questions, line by line), `Reading` (the whole).
+#![tactic(auto)]
+
+mod atom;
+mod body;
+mod item;
+mod items;
+mod level;
+mod question;
+mod reading;
+mod scope;
+mod sum;
+mod test;
+mod token;
+
+pub use body::MAX_DEPTH;
+pub use item::MAX_TOKENS;
+pub use items::MAX_QUESTIONS;
+pub use question::{NamedQuestion, Place};
+pub use reading::{Questioned, read_questioned};
+pub use sum::MAX_SIZE;
