@@ -27,6 +27,14 @@ fn coherent(number: usize) -> Result<Term, Fail> {
     Ok(Term::read(Operand::Coherent(word)))
 }
 
+/// The sum of two terms that are no sums.
+fn sum(alloc: Global, left: Term, right: Term) -> Result<Term, Fail> {
+    if left.addends() != 1 || right.addends() != 1 {
+        return Err(Fail::new("a sum of a sum"));
+    }
+    Ok(left.plus(alloc, right)?)
+}
+
 /// Whether this holds in the first state of a text.
 fn is_true(alloc: Global, text: &str, cond: &Cond) -> Result<bool, Fail> {
     let machine = loaded(alloc, text)?;
@@ -79,12 +87,12 @@ fn sides_have_an_order(rt: HostRuntime) -> Result<(), Fail> {
 #[test]
 fn a_sum_does_not_wrap(rt: HostRuntime) -> Result<(), Fail> {
     let alloc = rt.alloc();
-    let more = word(0)?.plus(alloc, Term::number(1))?;
+    let more = sum(alloc, word(0)?, Term::number(1))?;
     assert!(rt; !compare(alloc, GREATEST, more, Comparison::Equal, Term::number(0))?);
-    let more = word(0)?.plus(alloc, Term::number(1))?;
+    let more = sum(alloc, word(0)?, Term::number(1))?;
     assert!(rt; compare(alloc, GREATEST, more, Comparison::Greater, word(0)?)?);
-    let twice = word(0)?.plus(alloc, word(0)?)?;
-    let same = Term::number(u64::MAX).plus(alloc, word(0)?)?;
+    let twice = sum(alloc, word(0)?, word(0)?)?;
+    let same = sum(alloc, Term::number(u64::MAX), word(0)?)?;
     assert!(rt; compare(alloc, GREATEST, twice, Comparison::Equal, same)?);
     Ok(())
 }
@@ -120,12 +128,12 @@ fn a_pointer_leads_to_a_word_or_to_none(rt: HostRuntime) -> Result<(), Fail> {
 #[test]
 fn what_is_not_there_has_no_value(rt: HostRuntime) -> Result<(), Fail> {
     let alloc = rt.alloc();
-    let far = word(0)?.plus(alloc, Term::number(4105))?;
+    let far = sum(alloc, word(0)?, Term::number(4105))?;
     let found = far.coherent_at(alloc)?;
     assert!(rt; !compare(alloc, GREATEST, found, Comparison::AtLeast, Term::number(0))?);
     let gone = Term::read(Operand::Register(1, Reg::R8));
-    let sum = Term::number(3).plus(alloc, gone)?;
-    let cond = Cond::compare(alloc, sum, Comparison::AtLeast, Term::number(0))?;
+    let both = sum(alloc, Term::number(3), gone)?;
+    let cond = Cond::compare(alloc, both, Comparison::AtLeast, Term::number(0))?;
     assert!(rt; !is_true(alloc, EQUAL, &cond)?);
     assert!(rt; is_true(alloc, EQUAL, &cond.negated(alloc)?)?);
     Ok(())
@@ -170,30 +178,60 @@ fn what_is_there_is_true_or_false(rt: HostRuntime) -> Result<(), Fail> {
             let cond = Cond::compare(alloc, word(0)?, comparison, Term::number(number))?;
             assert!(rt; is_so(alloc, &cond, Some(truth))?);
             assert!(rt; is_so(alloc, &cond.negated(alloc)?, Some(!truth))?);
-            let sum = Term::number(2).plus(alloc, Term::number(3))?;
-            let cond = Cond::compare(alloc, sum, comparison, Term::number(number))?;
+            let both = sum(alloc, Term::number(2), Term::number(3))?;
+            let cond = Cond::compare(alloc, both, comparison, Term::number(number))?;
             assert!(rt; is_so(alloc, &cond, Some(truth))?);
         }
     }
     Ok(())
 }
 
-/// A test of what is not there is neither, and so is its `not`; of `and` and `or` the other side may say it.
+/// Whether `and` of two conditions is true, false or neither in `EQUAL`, as this says.
+fn both_are(alloc: Global, one: Cond, other: Cond, truth: Option<bool>) -> Result<bool, Fail> {
+    is_so(alloc, &one.and(alloc, other)?, truth)
+}
+
+/// Whether `or` of two conditions is true, false or neither in `EQUAL`, as this says.
+fn either_is(alloc: Global, one: Cond, other: Cond, truth: Option<bool>) -> Result<bool, Fail> {
+    is_so(alloc, &one.or(alloc, other)?, truth)
+}
+
+/// A test of what is not there is neither, and so is its `not`.
 #[test]
 fn what_is_not_there_is_neither(rt: HostRuntime) -> Result<(), Fail> {
     let alloc = rt.alloc();
     assert!(rt; is_so(alloc, &lost(alloc)?, None)?);
     assert!(rt; is_so(alloc, &lost(alloc)?.negated(alloc)?, None)?);
-    assert!(rt; is_so(alloc, &lost(alloc)?.and(alloc, x_is(5)?)?, None)?);
-    assert!(rt; is_so(alloc, &x_is(6)?.and(alloc, lost(alloc)?)?, Some(false))?);
-    assert!(rt; is_so(alloc, &lost(alloc)?.and(alloc, x_is(6)?)?, Some(false))?);
-    assert!(rt; is_so(alloc, &lost(alloc)?.or(alloc, x_is(6)?)?, None)?);
-    assert!(rt; is_so(alloc, &x_is(5)?.or(alloc, lost(alloc)?)?, Some(true))?);
-    assert!(rt; is_so(alloc, &lost(alloc)?.or(alloc, x_is(5)?)?, Some(true))?);
-    let neither = lost(alloc)?.and(alloc, x_is(6)?)?;
-    assert!(rt; is_so(alloc, &neither.negated(alloc)?, Some(true))?);
-    let neither = lost(alloc)?.or(alloc, lost(alloc)?.negated(alloc)?)?;
-    assert!(rt; is_so(alloc, &neither.negated(alloc)?, None)?);
+    Ok(())
+}
+
+/// Of `and` with what is not there the other side says it where it is false.
+#[test]
+fn what_is_false_makes_and_false(rt: HostRuntime) -> Result<(), Fail> {
+    let alloc = rt.alloc();
+    assert!(rt; both_are(alloc, lost(alloc)?, x_is(5)?, None)?);
+    assert!(rt; both_are(alloc, x_is(6)?, lost(alloc)?, Some(false))?);
+    assert!(rt; both_are(alloc, lost(alloc)?, x_is(6)?, Some(false))?);
+    Ok(())
+}
+
+/// Of `or` with what is not there the other side says it where it is true.
+#[test]
+fn what_is_true_makes_or_true(rt: HostRuntime) -> Result<(), Fail> {
+    let alloc = rt.alloc();
+    assert!(rt; either_is(alloc, lost(alloc)?, x_is(6)?, None)?);
+    assert!(rt; either_is(alloc, x_is(5)?, lost(alloc)?, Some(true))?);
+    assert!(rt; either_is(alloc, lost(alloc)?, x_is(5)?, Some(true))?);
+    assert!(rt; either_is(alloc, lost(alloc)?, lost(alloc)?.negated(alloc)?, None)?);
+    Ok(())
+}
+
+/// `not` of what is false is true.
+#[test]
+fn what_is_false_is_denied(rt: HostRuntime) -> Result<(), Fail> {
+    let alloc = rt.alloc();
+    let never = lost(alloc)?.and(alloc, x_is(6)?)?;
+    assert!(rt; is_so(alloc, &never.negated(alloc)?, Some(true))?);
     Ok(())
 }
 
@@ -206,7 +244,7 @@ fn a_difference_is_a_sum_on_the_other_side(rt: HostRuntime) -> Result<(), Fail> 
         ("litmus 1\nline h t\ninit h 8\ninit t 10\ncpu\nend\n", true),
         ("litmus 1\nline h t\ninit h 12\ninit t 8\ncpu\nend\n", false),
     ] {
-        let right = word(1)?.plus(alloc, Term::number(3))?;
+        let right = sum(alloc, word(1)?, Term::number(3))?;
         assert!(rt; compare(alloc, text, word(0)?, Comparison::AtMost, right)? == answer);
     }
     Ok(())
