@@ -207,10 +207,10 @@ class Comparison:
     def ask(
         self, kind: str, command: str, options: list[str], steps: list[Step], told: str, status: int, is_fault: bool | None = None
     ) -> None:
-        """Asks one question; told is its report without the last line feed, or its fault, where the status is 2."""
+        """Asks one question; told is its report without the last line feed, or its fault, where the status is 2 or 5."""
         self.counts[kind] += 1
         ran = self.answers(command, options, steps)
-        is_fault = status == 2 if is_fault is None else is_fault
+        is_fault = status in (2, 5) if is_fault is None else is_fault
         report, fault = ("", f"px86: {told}\n") if is_fault else (told + "\n" * bool(told), "")
         if (ran.stdout, FAR.sub("", ran.stderr, count=1), ran.returncode) != (report, fault, status):
             self.different += 1
