@@ -226,6 +226,15 @@ fn what_is_true_makes_or_true(rt: HostRuntime) -> Result<(), Fail> {
     Ok(())
 }
 
+/// `not` of what is neither is neither.
+#[test]
+fn what_is_neither_is_not_denied(rt: HostRuntime) -> Result<(), Fail> {
+    let alloc = rt.alloc();
+    let neither = lost(alloc)?.or(alloc, lost(alloc)?.negated(alloc)?)?;
+    assert!(rt; is_so(alloc, &neither.negated(alloc)?, None)?);
+    Ok(())
+}
+
 /// `not` of what is false is true.
 #[test]
 fn what_is_false_is_denied(rt: HostRuntime) -> Result<(), Fail> {
