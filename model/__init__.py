@@ -2,8 +2,8 @@
 `mend`.
 
 Written from docs/MODEL.md and docs/FORMATS.md alone, in another language than the program, and slow: its reports say
-what those of the program must be. It reads litmus texts and sheets without faults (no objects, and `mend` no sheets), and the steps
-on standard input.
+what those of the program must be. It reads litmus texts without faults, and sheets (no objects), and the steps on standard input. Of
+the conditions that are asked of a sheet it tells the faults too; those of a litmus text have none.
 
   tools/schedules-model run FILE
   tools/schedules-model trace FILE
@@ -17,10 +17,10 @@ on standard input.
   tools/schedules-model hunt FILE (--cond COND | --all COND [--lazy] [--explain-image]) [--workers W] [--show] [PLAN]
   tools/schedules-model replay FILE --number K [--lazy] [PLAN]
   tools/schedules-model live FILE [--threads T] [--check REPORT]
-  tools/schedules-model check FILE [--all COND] [--ends COND] [--recovered COND] [--images] [--before-crash] [--states N]
+  tools/schedules-model check FILE.. [--all COND] [--ends COND] [--recovered COND] [--images] [--before-crash] [--states N]
       [--names] [--only NAME]
   tools/schedules-model fences FILE [--all COND] [--ends COND] [--recovered COND] [--before-crash] [--states N] [--only SITE]
-  tools/schedules-model mend FILE [--all COND] [--ends COND] [--recovered COND] [--before-crash] [--states N] [--moves]
+  tools/schedules-model mend FILE [--all COND] [--ends COND] [--recovered COND] [--before-crash] [--states N] [--moves] [--sets N]
   tools/schedules-model outcomes FILE [--recovered] [--states N] [--breaking COND]
   tools/schedules-model enumerate FILE [--crash] [--cond COND]
   tools/schedules-model dis FILE
@@ -43,15 +43,18 @@ nothing left out: a state that was met before, counts apart, is not gone through
 report of `check` is that of the program without the lines `states` and `steps`. Where a condition fails the program tells
 one state that makes it false, and which one is not said; here there is a line `Q fails V..` for each that may be told. With
 `--states N` more than N of these states, of which the program needs fewer, are R1 TooManyStates. Without a condition it answers the
-questions of a sheet, with a line `NAME fails V..` or `NAME found V..` for each that may be told. With --breaking COND, which
-the program does not have, `outcomes` tells those alone that make it false.
+questions of a sheet, with a line `NAME fails V..` or `NAME found V..` for each that may be told. Of several files it asks the questions
+of one after another, from the same steps: `FILE: N hold`, or a line for each that may be told of the first question whose answer is not
+good. With --breaking COND, which the program does not have, `outcomes` tells those alone that make it false.
 
 `fences` does the same from the opening state of the program, and reads no steps: once for the program as it is, and where its
 conditions hold, once for each program in which a flush or a fence is a `nop`, for that without all that are not needed, and where
 this one breaks a condition, for those that lack one more of these after another. `mend` does it with each set of any size of
-flushes and fences in the text, in their order, up to the first that holds: with 2^N sets of N instructions, where none does; and
-with --moves, where none does, so for each program in which one store stands elsewhere (there with all instructions that may be put in
-first: if it fails with these, none does). Its report is without the count of states.
+flushes and fences in the text, or in the text that a sheet says, in their order, up to the first that holds: with 2^N sets of N
+instructions, where none does; and with --moves, where none does, so for each program in which one store stands elsewhere (there with all
+instructions that may be put in first: if it fails with these, none does). Its report is without the count of states. With --sets, which
+the program does not have, it is `more sets` where more than so many are to be tried of one program; and there, too, what may be put in is
+first put in together.
 
 `explain`, which the program does not have, writes what `check --explain-image` with these conditions says of a run of these steps: of
 each crash, and with `--image` of an image of the state to which they lead. With `--report` it says what is wrong with these lines. Which

@@ -6,16 +6,16 @@ import re
 import sys
 from argparse import Namespace
 
-from model.conditions import Condition
+from model.conditions import condition_of
 from model.effects import law_of
 from model.enumerated import crashes_of, end_text, ends_of
 from model.explanations import explained_image, explanations_of, wrong_explanations
 from model.fences import fences_told
 from model.images import candidates_of, closed_sets_of, image_lines, images_of, set_text
 from model.machine import Machine, Refused, make_all
-from model.mends import mend_told, moved_told
+from model.mends import mend_or_none, mend_told, moved_told
 from model.programs import SHAPES, program_lines, small_lines
-from model.questions import Question, answer_of_state, answers_told
+from model.questions import Question, answer_of_state, answers_told, hold_told
 from model.reading import Fault
 from model.rules import CANDIDATES, Step
 from model.runs import outcomes_of, runs_told, verdict_of
@@ -96,12 +96,12 @@ def listing_of(machine: Machine, options: Namespace) -> tuple[list[str], int]:
     if not options.count:
         lines += image_lines(machine, listed, getattr(options, "names", False))
     if options.all is not None:
-        condition = Condition(options.all, machine.program)
+        condition = condition_of(options.all, machine.program)
         fails = [image for image in listed if not condition.holds(machine, image)]
         lines.append(" ".join(map(str, ("all fails", *fails[0]))) if fails else "all holds")
         status |= bool(fails)
     if options.some is not None:
-        condition = Condition(options.some, machine.program)
+        condition = condition_of(options.some, machine.program)
         found = [image for image in listed if condition.holds(machine, image)]
         lines.append(" ".join(map(str, ("some found", *found[0]))) if found else "some none")
         status |= not found
@@ -116,7 +116,7 @@ def numbers_of(options: Namespace) -> range:
 def tally(machine: Machine, steps: list[Step], options: Namespace) -> int:
     make_all(machine, steps)
     if options.all is not None:
-        condition = Condition(options.all, machine.program)
+        condition = condition_of(options.all, machine.program)
         losses = [(number, loss_of(machine, options, condition, number)) for number in numbers_of(options)]
         broken = [(number, len(loss[1])) for number, loss in losses if loss]
         print("broken", len(broken), "of", options.runs)
@@ -167,7 +167,7 @@ def hunt(machine: Machine, steps: list[Step], options: Namespace) -> int:
         return hunt_all(machine, steps, options)
     if asks_ends(options):
         return hunt_ends(machine, options)
-    condition = Condition(options.cond, machine.program)
+    condition = condition_of(options.cond, machine.program)
     for number in numbers_of(options):
         ended, schedule = schedule_of(machine, options, number)
         if not condition.holds(ended):
@@ -206,7 +206,7 @@ def replay(machine: Machine, steps: list[Step], options: Namespace) -> int:
 
 def first_loss(machine: Machine, options: Namespace) -> tuple[int, str, list[Step]] | None:
     """The least schedule that breaks the condition, what does at its least turn, and its steps up to there; or nothing."""
-    condition = Condition(options.all, machine.program)
+    condition = condition_of(options.all, machine.program)
     for number in numbers_of(options):
         loss = loss_of(machine, options, condition, number)
         if loss:
@@ -264,7 +264,7 @@ def enumerate_(machine: Machine, steps: list[Step], options: Namespace) -> int:
     outcomes = {text(end): end for end in ends}
     fails = []
     if options.cond is not None:
-        condition = Condition(options.cond, machine.program)
+        condition = condition_of(options.cond, machine.program)
         fails = sorted(told for told, end in outcomes.items() if not condition.holds(end))
         print(f"fails{fails[0]}" if fails else "holds")
     for image in images:
@@ -291,10 +291,17 @@ def explain(machine: Machine, steps: list[Step], options: Namespace) -> int:
 
 
 def check(machine: Machine, steps: list[Step], options: Namespace) -> int:
+    asks_nothing = (options.all, options.ends, options.recovered, options.images) == (None, None, None, False)
+    asked = asked_of(machine.program, options.only) if asks_nothing else []
     make_all(machine, steps)
     runs = runs_told(machine, not options.before_crash, options.states)
-    asks_nothing = (options.all, options.ends, options.recovered, options.images) == (None, None, None, False)
-    lines, status = answers_told(runs, asked_of(machine.program, options.only)) if asks_nothing else verdict_of(runs, options)
+    if not asks_nothing:
+        lines, status = verdict_of(runs, options)
+    elif options.named is None:
+        lines, status = answers_told(runs, asked)
+    else:
+        lines, status = hold_told(runs, asked)
+        lines = [f"{options.named}: {line}" for line in lines]
     print(*lines, sep="\n")
     return status
 
@@ -308,7 +315,10 @@ def answer(machine: Machine, steps: list[Step], options: Namespace) -> int:
 
 def asked_of(program: Program, only: str | None) -> list[Question]:
     """The questions of a program, or that of this name."""
-    return [it for it in program.questions if only in (None, it.name)]
+    asked = [it for it in program.questions if only in (None, it.name)]
+    if only is not None and not asked:
+        raise Fault("usage")
+    return asked
 
 
 def fences(machine: Machine, _: object, options: Namespace) -> int:
@@ -321,7 +331,8 @@ def fences(machine: Machine, _: object, options: Namespace) -> int:
 def mend(machine: Machine, _: object, options: Namespace) -> int:
     options.names = options.images = False
     runs_told(machine, not options.before_crash, options.states)
-    lines, status = (moved_told if options.moves else mend_told)(machine.program, options)
+    told_of = moved_told if options.moves else mend_told if options.sets is None else mend_or_none
+    lines, status = told_of(machine.program, options, options.sets) or (["more sets"], 1)
     print(*lines, sep="\n")
     return status
 

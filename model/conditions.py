@@ -4,6 +4,7 @@ from __future__ import annotations
 
 import re
 from collections.abc import Callable
+from typing import Any
 
 from model.machine import Machine
 from model.rules import REGISTERS, Image
@@ -64,3 +65,9 @@ class Condition:
             found = self.machine.processors[p].registers[register] if there else None
         test, number = self.TESTS[self.next()], number_of(self.next())
         return found is not None and test(found, number)
+
+
+def condition_of(text: str, program: Program) -> Any:
+    """What the condition of an option asks of a program: of a sheet it is written as those of its questions, and may name what one more
+    item of it might."""
+    return Condition(text, program) if program.items is None else program.items.asked(text)

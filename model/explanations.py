@@ -7,7 +7,7 @@ from argparse import Namespace
 from collections.abc import Callable, Collection, Iterable, Iterator
 from typing import Any
 
-from model.conditions import Condition
+from model.conditions import condition_of
 from model.images import closed_sets_of, leaves_first, size_of
 from model.machine import Machine, make_all
 from model.questions import kept_by
@@ -163,9 +163,14 @@ def crashes_explained(program: Program, steps: list[Step], run: list[Step]) -> I
             yield [f"crash {at}", *explained_image(program, made, tuple(left[word] for word in sorted(program.names)))]
 
 
+def told_lines_of(program: Program) -> list[dict[str, list[int]]]:
+    """Of each processor, and each of its two programs, the lines on which its instructions are told."""
+    return program.told_lines or text_lines_of(program.text)
+
+
 def line_told(program: Program, spot: Any) -> str:
-    """On which line of its text an instruction of a program stands."""
-    return f"line {(program.sheet_lines or text_lines_of(program.text))[spot.p][spot.block][spot.place]}"
+    """On which line an instruction of a program is told."""
+    return f"line {told_lines_of(program)[spot.p][spot.block][spot.place]}"
 
 
 # Of how many missing writes it is asked at most, and of how many states what is explored for one.
@@ -215,7 +220,7 @@ def asked_by(program: Program, options: Namespace) -> dict[str, Any]:
     only = getattr(options, "only", None)
     if only is None:
         texts = {kind: getattr(options, kind) for kind in ("all", "ends", "recovered")}
-        return {kind: Condition(text, program) for kind, text in texts.items() if text is not None}
+        return {kind: condition_of(text, program) for kind, text in texts.items() if text is not None}
     kinds = {"crash": "all", "end": "ends", "recovery": "recovered"}
     return {kinds[it.place]: kept_by(it) for it in program.questions if it.name == only}
 

@@ -2,9 +2,9 @@
 
 from __future__ import annotations
 
-import sys
 from collections.abc import Callable, Iterator
 
+from model.reading import Fault
 from model.rules import (
     BUFFER_ENTRIES, LINE_WRITES, MARKERS, MASK, REGISTERS, Entry, Instruction, Operand, Step, keeps, line_of_entry,
 )
@@ -290,11 +290,10 @@ class Machine:
 
 
 def make_all(machine: Machine, steps: list[Step]) -> Machine:
-    """Makes steps, all of which must be accepted."""
+    """Makes steps; the first one that is refused is a fault."""
     for at, step in enumerate(steps):
         try:
             machine.step(step)
         except Refused as refused:
-            print(f"px86: {refused} at {at}", file=sys.stderr)
-            raise SystemExit(2) from None
+            raise Fault(f"{refused} at {at}") from None
     return machine

@@ -3,12 +3,12 @@
 from __future__ import annotations
 
 import collections
+import copy
 import itertools
-import re
 from argparse import Namespace
 from collections.abc import Iterable, Iterator, Sequence
 
-from model.explanations import line_told, text_lines_of
+from model.explanations import line_told, text_lines_of, told_lines_of
 from model.fences import FENCES, answer_in
 from model.rules import JUMPS, REGISTERS, Instruction, Operand
 from model.texts import Program
@@ -75,7 +75,7 @@ def with_put_in(program: Program, parts: Sequence[Put]) -> Program:
     rows, lines = program.text.split("\n"), text_lines_of(program.text)
     for part in reversed(parts):
         rows.insert(lines[part.p][part.block][part.place], part.instruction)
-    return Program("\n".join(rows))
+    return program.with_text("\n".join(rows))
 
 
 def put_told(program: Program, parts: Iterable[Put]) -> list[str]:
@@ -181,23 +181,22 @@ def moves_told(program: Program) -> Iterator[Moved]:
                         yield Moved(p, block, place, side, to)
 
 
-def with_move(program: Program, move: Moved) -> tuple[Program, list[int]]:
-    """The program of the text with a store put elsewhere, a `nop` where it stood, and of each of its lines which line of the text as
-    it is it is."""
+def with_move(program: Program, move: Moved) -> Program:
+    """The program of the text with a store put elsewhere, and a `nop` where it stood. It is told on the lines of the text as it is."""
     rows, lines = program.text.split("\n"), text_lines_of(program.text)[move.p][move.block]
-    old = list(range(1, len(rows) + 1))
     store, rows[lines[move.place] - 1] = rows[lines[move.place] - 1], "nop"
-    at = lines[move.to] - (move.side == "before")
-    rows.insert(at, store)
-    old.insert(at, lines[move.place])
-    return Program("\n".join(rows)), old
+    rows.insert(lines[move.to] - (move.side == "before"), store)
+    moved = program.with_text("\n".join(rows))
+    moved.told_lines = copy.deepcopy(told_lines_of(program))
+    told = moved.told_lines[move.p][move.block]
+    told.insert(move.to + (move.side == "behind"), told[move.place])
+    return moved
 
 
-def told_of_move(program: Program, move: Moved, lines: list[str], old: list[int]) -> list[str]:
+def told_of_move(program: Program, move: Moved, lines: list[str]) -> list[str]:
     """What is told of a move, with the lines that are told of the moved program."""
-    own = text_lines_of(program.text)[move.p][move.block]
-    place = lambda found: f"line {old[int(found[1]) - 1]}"
-    return [f"move line {own[move.place]} {move.side} line {own[move.to]}", *(re.sub(r"line (\d+)", place, it) for it in lines)]
+    own = told_lines_of(program)[move.p][move.block]
+    return [f"move line {own[move.place]} {move.side} line {own[move.to]}", *lines]
 
 
 def mend_or_none(program: Program, options: Namespace, most: int | None) -> tuple[list[str], int] | None:
@@ -216,12 +215,11 @@ def moved_told(program: Program, options: Namespace, most: int | None = None) ->
     count = 0
     for move in moves_told(program):
         count += 1
-        moved, old = with_move(program, move)
-        told = mend_or_none(moved, options, most)
+        told = mend_or_none(with_move(program, move), options, most)
         if told is None:
             return None
         lines, status = told
         if status == 0:
             lines = [*held_told(options), "cost 0"] if lines == ["mend none needed"] else lines
-            return told_of_move(program, move, lines, old), 0
+            return told_of_move(program, move, lines), 0
     return ["mend none", f"moves {count}, none helps"], 1

@@ -1,10 +1,13 @@
 """The questions of a sheet, with their faults, and what may be answered to them: by every run, and by the truth of a condition as
-docs/FORMATS.md says it, which is true, false, or neither."""
+docs/FORMATS.md says it, which is true, false, or neither. And the conditions of options that are asked of a sheet: they are written as
+those of its questions."""
 
 from __future__ import annotations
 
+import copy
 import dataclasses
 import operator
+import re
 from collections.abc import Callable, Iterable
 from typing import Any, NoReturn
 
@@ -92,10 +95,15 @@ class Tokens:
         if not self.ahead or self.ahead[0][2]:
             return ""
         if self.count == MOST_TOKENS:
-            self.too_long()
+            self.too_many()
         return self.ahead[0][0]
 
+    def too_many(self) -> NoReturn:
+        """The next token is one too many."""
+        self.too_long()
+
     def too_long(self) -> NoReturn:
+        """With the last token the item is too large."""
         raise Fault(f"X5 TooLong line {self.first}")
 
     def fault(self, text: str) -> NoReturn:
@@ -122,8 +130,34 @@ class Tokens:
         return self.take() if self.peek() else self.fault("X1 BadWord")
 
 
+class OptionTokens(Tokens):
+    """The tokens of the condition of an option, which has no lines: a fault is told with the number of its token, from 0."""
+
+    def __init__(self, text: str) -> None:
+        super().__init__([])
+        # A comment goes on to the end, and no token begins an item.
+        tokens = re.findall(r"[,\[\]:()]|[^ \t\r,\[\]:()]+", text.partition("#")[0])
+        self.ahead = [(it, 0, False) for it in tokens]
+
+    def told(self, text: str, number: int) -> NoReturn:
+        raise Fault(f"{'E2 UnknownName' if text == 'X2 UnknownName' else 'E1 BadCond'} {number}")
+
+    def fault(self, text: str) -> NoReturn:
+        self.told(text, self.count - 1)
+
+    def wrong(self) -> NoReturn:
+        self.told("X11 BadCond", self.count)
+
+    def too_many(self) -> NoReturn:
+        self.told("X5 TooLong", self.count)
+
+    def too_long(self) -> NoReturn:
+        self.told("X5 TooLong", self.count - 1)
+
+
 class QuestionsReader:
-    """Reads items: of each the head, and then what stands behind it, from left to right."""
+    """Reads items: of each the head, and then what stands behind it, from left to right. Behind the last one it reads conditions of
+    options, which may name what one more item might."""
 
     def __init__(self, rows: list[tuple[int, bytes]], words: dict[str, int], constants: dict[str, int], processors: int) -> None:
         self.tokens = Tokens(rows)
@@ -137,8 +171,7 @@ class QuestionsReader:
         """The questions; or the first fault."""
         questions: list[Question] = []
         while kind := self.tokens.begin():
-            self.open = self.size = 0
-            self.has_taken = False
+            self.begin()
             if kind == "let":
                 self.read_let()
                 continue
@@ -146,6 +179,20 @@ class QuestionsReader:
                 self.tokens.too_long()
             questions.append(self.read_question(kind == "every"))
         return questions
+
+    def begin(self) -> None:
+        """Nothing of an item is read."""
+        self.open = self.size = 0
+        self.has_taken = False
+
+    def asked(self, text: str) -> Kept:
+        """What the condition of an option asks: that it is true."""
+        reader = copy.copy(self)
+        reader.tokens = OptionTokens(text)
+        reader.begin()
+        condition, _ = reader.condition()
+        reader.ends()
+        return Kept(condition, True)
 
     def read_let(self) -> None:
         name = self.read_name("=")
@@ -396,14 +443,30 @@ def answer_told(machine: Machine, question: Question, image: Image) -> str:
     return " ".join(["fails" if question.every else "found", *told])
 
 
+def is_good(answer: str) -> bool:
+    return answer.split()[0] in ("holds", "found", "not")
+
+
 def answers_told(runs: Runs, questions: Iterable[Question]) -> tuple[list[str], int]:
     """The report, with a line for each answer that may be, and the status."""
     lines, status = [], 0
     for it in questions:
         answers = answers_to(runs, it)
         lines += [f"{it.name} {answer}" for answer in answers]
-        status |= answers[0].split()[0] not in ("holds", "found", "not")
+        status |= not is_good(answers[0])
     return (lines, int(status)) if lines else (["nothing asked"], 1)
+
+
+def hold_told(runs: Runs, questions: list[Question]) -> tuple[list[str], int]:
+    """The report of a file that is one of several, without its name, and the status: how many questions are asked, where all answers are
+    good; else a line for each answer that may be to the first question of which none is."""
+    asked = 0
+    for it in questions:
+        answers = answers_to(runs, it)
+        if not is_good(answers[0]):
+            return [f"{it.name} {answer}" for answer in answers], 1
+        asked += answers != ["not asked"]
+    return ([f"{asked} hold"], 0) if questions else (["nothing asked"], 1)
 
 
 def answer_of_state(machine: Machine, question: Question) -> str:

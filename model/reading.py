@@ -19,7 +19,11 @@ Said = str | tuple[str, str | int]
 
 
 class Fault(Exception):
-    """What the program says of an input that it refuses."""
+    """What the program says of an input that it refuses, or in place of an answer; and its exit status then."""
+
+    def __init__(self, text: str, status: int = 2) -> None:
+        super().__init__(text)
+        self.status = status
 
 
 def lines_of(data: bytes) -> list[bytes]:

@@ -3,15 +3,15 @@
 from __future__ import annotations
 
 import collections
-import sys
 from argparse import Namespace
 from collections.abc import Iterator
 from typing import Any
 
-from model.conditions import Condition
+from model.conditions import Condition, condition_of
 from model.enumerated import key_of
 from model.images import changed, image_lines, words_line
 from model.machine import Machine
+from model.reading import Fault
 from model.rules import LINE_WRITES, MARKERS, REGISTERS, Entry, Image
 from model.schedules import enabled_of
 
@@ -146,7 +146,7 @@ def verdict_of(runs: Runs, options: Namespace) -> tuple[list[str], int]:
         text = getattr(options, question)
         if text is None:
             continue
-        condition = Condition(text, program)
+        condition = condition_of(text, program)
         if question == "all":
             values, asked = runs.broken_images(condition), True
         else:
@@ -170,7 +170,7 @@ def outcomes_of(runs: Runs, after: bool, breaking: str | None = None) -> list[st
     """The report of `outcomes`; with a condition of the outcomes that make it false."""
     ends = runs.ends[after]
     if breaking is not None:
-        condition = Condition(breaking, runs.opening.program)
+        condition = condition_of(breaking, runs.opening.program)
         ends = {numbers: machine for numbers, machine in ends.items() if not condition.holds(machine)}
     return [*(outcome_line(ends[numbers]) for numbers in sorted(ends)), f"outcomes {len(ends)}"]
 
@@ -183,5 +183,4 @@ def runs_told(machine: Machine, crashes: bool, most: int | None) -> Runs:
         fault = "R1 TooManyStates"
     except NoRoom:
         fault = "R2 NoRoom"
-    print(f"px86: {fault}", file=sys.stderr)
-    raise SystemExit(5)
+    raise Fault(fault, 5)

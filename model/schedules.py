@@ -5,7 +5,7 @@ from __future__ import annotations
 from argparse import Namespace
 from collections.abc import Iterator
 
-from model.conditions import Condition
+from model.conditions import Condition, condition_of
 from model.images import candidates_of, images_of
 from model.machine import Machine
 from model.rules import CANDIDATES, REGISTERS, Step
@@ -69,7 +69,7 @@ def is_end(machine: Machine, after: bool) -> bool:
 def ends_of(opening: Machine, options: Namespace) -> Iterator[tuple[int, bool, list[Step]]]:
     """The schedules that come to an end of which a condition is asked: their numbers, whether it is true there, and their steps."""
     after = options.recovered is not None
-    condition = Condition(options.recovered if after else options.ends, opening.program)
+    condition = condition_of(options.recovered if after else options.ends, opening.program)
     for number in range(options.first, options.first + options.runs):
         ended, steps = schedule_of(opening, options, number)
         if is_end(ended, after):

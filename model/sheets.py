@@ -55,14 +55,16 @@ class SheetReader(LitmusReader):
         super().__init__()
         self.constants: dict[str, int] = {}
         self.cpu: Cpu | None = None
-        # The lines from the first question on, and what they ask.
+        # The lines from the first question on, what reads them, and what they ask.
         self.kept: list[tuple[int, bytes]] = []
+        self.items: QuestionsReader | None = None
         self.questions: list[Question] = []
 
     def read_all(self, data: bytes) -> Litmus:
         """What the sheet says. The faults of its questions come behind those of its program."""
         litmus = super().read_all(data)
-        self.questions = QuestionsReader(self.kept, self.names, self.constants, len(self.all)).read_all()
+        self.items = QuestionsReader(self.kept, self.names, self.constants, len(self.all))
+        self.questions = self.items.read_all()
         return litmus
 
     def keeps(self, number: int, line: bytes) -> bool:
@@ -236,6 +238,6 @@ def program_of(text: str) -> Program:
         return Program(text)
     reader = SheetReader()
     program = Program(reader.read_all(data).written().decode("ascii"))
-    program.sheet_lines = [{"main": main.lines, "recover": recovery.lines} for main, recovery in reader.all]
-    program.questions = reader.questions
+    program.told_lines = [{"main": main.lines, "recover": recovery.lines} for main, recovery in reader.all]
+    program.questions, program.items = reader.questions, reader.items
     return program

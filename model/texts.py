@@ -27,10 +27,12 @@ def number_of(token: str) -> int:
 class Program:
     """Words, initial values, and of each processor the main and the recovery program."""
 
-    # Of each processor, and each of its two programs, the lines of the sheet on which its instructions stand, if one says the text.
-    sheet_lines: list[dict[str, list[int]]] | None = None
-    # What the sheet asks.
+    # Of each processor, and each of its two programs, the lines on which its instructions are told, where these are not those of its
+    # text: those of a sheet that says it, or of the text before a store was moved.
+    told_lines: list[dict[str, list[int]]] | None = None
+    # What the sheet asks, and what reads the condition of an option by its items; nothing of a litmus text.
     questions: Sequence[Any] = ()
+    items: Any = None
 
     def __init__(self, text: str) -> None:
         self.text = text
@@ -106,6 +108,12 @@ class Program:
         other = copy.copy(self)
         other.processors = copy.deepcopy(self.processors)
         other.processors[p][block][place] = instruction
+        return other
+
+    def with_text(self, text: str) -> Program:
+        """The program of another text, with the same words. Conditions name the same in it."""
+        other = Program(text)
+        other.items = self.items
         return other
 
     def without(self, p: int, block: str, place: int) -> Program:

@@ -3,7 +3,7 @@
   objects     cut at each byte, and with each bit changed
   programs    litmus texts and sheets, cut at each byte, and with each byte replaced by each of `\\0`, space, `(`, `9`, `z` and
               `\\x80`; of a sheet also by each of `$`, `&`, `*` and `K`, and of one with questions by `&`, `a`, `[` and `-`
-  steps, scripts and conditions, the same (no word of a command line holds `\\0`)
+  steps, scripts and conditions, the same (no word of a command line holds `\\0`); a condition of a sheet also by `#`, `&`, `[`, `-`, `K` and `c`
 
 What is wanted is told by readers that stand here and in model/, which were written from docs/FORMATS.md alone, and by the machine
 of model/, the second model: of bytes that have a fault that fault, alone, with status 2; of a program without one its written form
@@ -19,7 +19,7 @@ import types
 from collections.abc import Callable, Iterator
 
 from model.commands import listing_of
-from model.conditions import Condition
+from model.conditions import Condition, condition_of
 from model.enumerated import key_of
 from model.images import candidates_of, named_images_of, values_lines, values_of
 from model.machine import Machine, Refused, make_all
@@ -27,10 +27,11 @@ from model.reading import Fault, Litmus, is_name, is_text, lines_of, number_of, 
 from model.rules import CANDIDATES, REGISTERS
 from model.runs import Runs, outcomes_of
 from model.sheets import litmus_of
+from model.sheets import program_of as sheet_of
 from model.texts import Program
 from tests.harness import Case, Checks, Px86, unlike
 
-AT_LEAST = {"": 11376, "the sheet, ": 2208, "the questions, ": 1882}
+AT_LEAST = {"": 12119, "the sheet, ": 2208, "the questions, ": 1882, "condition of a sheet, ": 743}
 NEEDS_PROGRAM = True
 REPLACED = b"\0 (9z\x80"
 
@@ -520,6 +521,21 @@ def checked(program, question, text):
     return report([" ".join(map(str, [question, "fails", *machine.persisted.values()])), "steps 0"], 1)
 
 
+def stated(program, text):
+    """What `images --count --all --some` writes of a condition that is asked of a sheet, in its opening state."""
+    try:
+        condition = condition_of(text.decode("utf-8"), program)
+    except UnicodeDecodeError:
+        return refused("usage")
+    except Fault as fault:
+        return refused(fault)
+    machine = Machine(program)
+    image = " ".join(map(str, machine.persisted.values()))
+    if condition.holds(machine):
+        return report(["candidates 1", "all holds", f"some found {image}"])
+    return report(["candidates 1", f"all fails {image}", "some none"], 1)
+
+
 # --- what is changed
 
 
@@ -697,6 +713,12 @@ STILL = b"litmus 1\nline x\nline y\ninit x 1\ninit y 2\n"
 CONDITION = b"persisted x = 1 and not ( coherent y > 0x2 or reg 0 rax != 3 )"
 
 
+# Names of a value, a condition and a question, a constant, a pointer and each part of a condition, in which each word is one of
+# the other kinds too.
+STATED_OF = b"sheet 1\nconst K 3\nline x y\ninit x 1\ncpu\nend\nlet v = &x + 8\nlet c = persisted y = 0\nevery crash d: c\n"
+STATED = b"persisted [v] + K >= 0x3 -> not (c and reg 0 rax != -1) or d # c"
+
+
 def objects():
     """Objects by their names: the small one, in both versions; the text of the first example; and one of all operands."""
     yield "the small object", SMALL
@@ -819,6 +841,11 @@ def cases_of_conditions() -> Iterator[Case]:
             wanted = functools.partial(checked, still, question, changed)
             words = ["check", f"--{question}=".encode() + changed]
             yield Case(f"condition of check, {question}, {name}", answered, wanted, words, STILL)
+    sheet = sheet_of(STATED_OF.decode("ascii"))
+    for name, changed in [*cuts_of(STATED), *replacements_of(STATED, REPLACED.replace(b"\0", b"") + b"#&[-Kc")]:
+        wanted = functools.partial(stated, sheet, changed)
+        words = ["images", "--count", b"--all=" + changed, b"--some=" + changed]
+        yield Case(f"condition of a sheet, {name}", answered, wanted, words, STATED_OF)
 
 
 def cases() -> Iterator[Case]:

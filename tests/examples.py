@@ -49,7 +49,7 @@ def wrong_check(px86: Px86, it: Example) -> str:
 
 def wrong_success(px86: Px86, it: Example, done: Done) -> Iterator[str]:
     lines = done.out.splitlines(keepends=True)
-    place = sum(word in QUESTIONS for word in it.words)
+    place = sum(it.option(name) != "" for name in QUESTIONS)
     states = "".join(lines[place : place + 1])
     yield "" if re.fullmatch(r"states [1-9][0-9]*\n", states) else "there is no count of states in its place"
     yield differs("".join([*lines[:place], *lines[place + 1 :]]), it.report)
@@ -84,7 +84,7 @@ def wrong_state(px86: Px86, it: Example, line: str, steps: str) -> Iterator[str]
     crashed = not ran.out.splitlines()[1:2] == ["crashes 0"]
     is_of_its_kind = question == "all" or crashed == (question == "recovered")
     yield "" if is_of_its_kind else "the steps lead to an end of another kind"
-    images = px86("images", "--count", "--all", it.option(f"--{question}"), it.litmus, given=steps)
+    images = px86("images", "--count", f"--all={it.option(f'--{question}')}", it.litmus, given=steps)
     yield "" if images.out.splitlines()[-1:] == [f"all {told}"] else "the images of that state are others"
 
 
@@ -94,7 +94,7 @@ def wrong_explanation(px86: Px86, it: Example, line: str, shown: str, steps: str
     explained = px86(*it.words, "--show", "--explain-image").out
     if not explained.startswith(shown):
         return "with --explain-image another report"
-    asked = [word for name in (*QUESTIONS, "--states") if name in it.words for word in (name, it.option(name))]
+    asked = [f"{name}={it.option(name)}" for name in (*QUESTIONS, "--states") if it.option(name)]
     image = ["--image", line.removeprefix("all fails")] if line.startswith("all fails") else []
     because = px86.keep("because", explained.removeprefix(shown))
     told = model("explain", "--report", because, *asked, *image, it.litmus, given=steps)

@@ -20,7 +20,7 @@ from collections.abc import Iterable, Iterator
 
 from tests.harness import Case, Checks, Px86, commands_of, library, unlike
 
-AT_LEAST = {"": 4622}
+AT_LEAST = {"": 4977}
 NEEDS_PROGRAM = True
 # How many bytes the library gives at most.
 LARGEST_READ = 7
@@ -142,6 +142,37 @@ def sweep(px86: Px86, words: str, text: str, given: str | None, report: str | by
     yield from swept.writes(range(len(swept.report)), reads, status, EACH_WAY)
 
 
+# Of several files each is asked: its text, and its report behind its name. The first one is bad.
+ASKED = [
+    ("one", "sheet 1\nline x\ncpu\nmov [x], 1\nend\nevery end e: persisted x = 0\n", ": e fails x=1\n"),
+    ("two", "sheet 1\nline x\ncpu\nend\nsome crash c: persisted x = 0\n", ": 1 hold\n"),
+]
+
+
+def several(px86: Px86) -> Checks:
+    """Each failure of `check` of two files. After one of a read the next file is asked, and after one of a write none is."""
+    paths = [px86.keep(name, text) for name, text, _ in ASKED]
+    reads = [reads_of(text) for _, text, _ in ASKED]
+    told = [f"{path}{report}".encode() for path, (_, _, report) in zip(paths, ASKED)]
+    swept = Swept(px86, library("failing_devices"), ["check", *paths], "/dev/null", b"".join(told))
+    calls = ["r" * count + "w" * len(report) for count, report in zip(reads, told)]
+    unread = [f"px86: {path}: F1 ReadFailed\n".encode() for path in paths]
+    unwritten = [f"px86: {path}: F2 WriteFailed\n".encode() for path in paths]
+    for number in range(reads[0]):
+        yield swept.ends("FAILING_READ", f"{number}", (3, told[1], unread[0], "r" * (number + 1) + calls[1]))
+        yield swept.ends("FAILING_READ", f"{number}+", (3, b"", b"".join(unread), "r" * (number + 2)))
+    for number in range(reads[1]):
+        for on in "", "+":
+            wanted = 3, told[0], unread[1], calls[0] + "r" * (number + 1)
+            yield swept.ends("FAILING_READ", f"{reads[0] + number}{on}", wanted)
+    for which, before in (0, ""), (1, calls[0]):
+        for number in range(len(told[which])):
+            place = len(told[0]) * which + number
+            wanted = 3, swept.report[:place], unwritten[which], before + "r" * reads[which] + "w" * (number + 1)
+            yield from (swept.ends(name, f"{place}{on}", wanted) for name, on in EACH_WAY)
+    yield swept.ends("FAILING_WRITE", f"{len(swept.report)}", (1, swept.report, b"", "".join(calls)))
+
+
 def written(px86: Px86, words: list[str], report: bytes, numbers: Iterable[int]) -> Checks:
     """What no command writes: the status is 3 where a write fails for ever or is interrupted once, or takes no byte, and 0 where
     each takes its bytes."""
@@ -160,6 +191,7 @@ def helps(px86: Px86) -> Checks:
 def cases() -> Iterator[Case]:
     """All cases."""
     yield from (Case(words, sweep, words, *row) for words, *row in SWEEPS)
+    yield Case("check of two files", several)
     yield Case("--version", written, ["--version"], b"px86 0.1.0\n", range(11))
     yield Case("-V", written, ["-V"], b"px86 0.1.0\n", range(1))
     yield Case("each help", helps)

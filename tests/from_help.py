@@ -14,7 +14,7 @@ from collections.abc import Callable, Iterator
 
 from tests.harness import TOP, Case, Checks, Px86, Terminal, absent, commands_of, differs, run, unlike
 
-AT_LEAST = {"": 219}
+AT_LEAST = {"": 225}
 NEEDS_PROGRAM = True
 KINDS = "manual", "bash", "zsh", "fish"
 
@@ -40,6 +40,8 @@ class Help:
         # (What stands in brackets is a default, and may name options too.)
         rows = {it: re.sub(r"\[[^\]]*\]", "", text) for it, text in listed.items()}
         self.options = {it: set(re.findall(r"(?:^ +|, )(--?[A-Za-z][a-z-]*)(?=[ ,])", text, re.M)) for it, text in rows.items()}
+        # The commands of which FILE may be there again.
+        self.take_several = [it for it, text in self.texts.items() if re.search(r"^Usage: .* <FILE>\.\.\.$", text, re.M)]
         self.takes_value = {it: set(re.findall(r"(--[a-z-]+) <", text)) for it, text in listed.items()}
 
 
@@ -164,6 +166,7 @@ def typed(command: str, *words: str) -> str:
 def completions(text: Help, offered: Offered, completed: Completed) -> Checks:
     """What a shell offers and completes is what the help says."""
     yield "commands", unlike(offered("px86 ") - {"-", "--"}, set(text.commands))
+    yield "commands of several files", unlike(text.take_several, ["check"])
     for command in text.texts:
         yield f"options of {command or 'all'}", unlike(offered(typed(command, "-")), text.options[command])
         if value := sorted(text.takes_value[command] - {"--steps"}):
@@ -171,6 +174,9 @@ def completions(text: Help, offered: Offered, completed: Completed) -> Checks:
             yield f"values of {command} for which something is offered", unlike(found, [])
     for command in text.commands:
         yield f"FILE of {command}", unlike(completed(typed(command, "fir")), ["px86", command, "first.litmus"])
+        if command in text.take_several:
+            wanted = ["px86", command, "first.litmus", "second.litmus"]
+            yield f"another FILE of {command}", unlike(completed(typed(command, "first.litmus", "sec")), wanted)
         if "--steps" in text.options[command]:
             wanted = ["px86", command, "--steps", "third.steps"]
             yield f"--steps of {command}", unlike(completed(typed(command, "--steps", "thi")), wanted)
@@ -250,9 +256,9 @@ def fish(px86: Px86, text: Help) -> Checks:
 
 
 def in_shell(px86: Px86, name: str, asks: Callable[[Px86, Help], Checks]) -> Checks:
-    """What a shell completes, in a folder with two files."""
+    """What a shell completes, in a folder with three files."""
     text = Help(px86)
-    for file in "first.litmus", "third.steps":
+    for file in "first.litmus", "second.litmus", "third.steps":
         px86.keep(file, "")
     checks = asks(px86, text) if shutil.which(name) else absent(name, completions(text, lambda _: set(), lambda _: []))
     yield from checks

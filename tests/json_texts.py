@@ -519,7 +519,7 @@ def mend(o: Any, options: Sequence[str]) -> Lines:
 def lines_of(text: bytes) -> list[dict[str, list[int]]]:
     """The lines of a text on which its instructions stand, of each processor those of its two programs."""
     if is_sheet(text):
-        return program_of(text.decode()).sheet_lines or []
+        return program_of(text.decode()).told_lines or []
     processors, program = [], None
     for number, line in enumerate(text.decode("latin-1").split("\n"), 1):
         tokens = line.partition("#")[0].replace(":", " : ").split()

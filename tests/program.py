@@ -35,7 +35,7 @@ from collections.abc import Callable, Iterable, Iterator, Mapping, Sequence
 from tests.harness import TOP, Case, Checks, Done, NotRun, Px86, commands_of, differs, read, run, unlike, with_needs, wrong_end, wrong_run
 from tests.texts import COUNT
 
-AT_LEAST = {"": 1026}
+AT_LEAST = {"": 1138}
 NEEDS_PROGRAM = True
 REPORT, USAGE, LIMIT = read("crates/px86/stdout"), "px86: usage\n", 2**26
 

@@ -1,5 +1,6 @@
 """Asks the questions of sheets: random ones of small random programs, and those of examples; and what is left of random ones where
-tokens are dropped, doubled, replaced or exchanged.
+tokens are dropped, doubled, replaced or exchanged. The conditions of options that are asked of sheets stand in tests/sheet_conditions.py,
+and the questions of several files at once in tests/several_files.py.
 
 What may be answered, and each fault, the second model tells (model/questions.py), which reads questions by docs/FORMATS.md alone, and
 makes every list of steps. Where an answer has a run, its steps lead the model to the values that are told. In tests/cases/questions.lines
@@ -34,7 +35,7 @@ NEEDS_PROGRAM = True
 # How many random sheets there are, how many a case has, how often each is damaged; and how many states the model tells apart at most.
 SHEETS, OF_A_CASE, DAMAGES, MOST_STATES = 144, 12, 8, 700
 AT_LEAST = {
-    "": 2650,
+    "": 5600,
     "sheets *: fails": 250,
     "sheets *: found": 110,
     "sheets *: holds": 200,
@@ -45,6 +46,28 @@ AT_LEAST = {
     "sheets *: damaged": 1152,
     "examples/*: by the model": 19,
     "what is made": 38,
+    "conditions of sheets *: check holds": 50,
+    "conditions of sheets *: check fails": 60,
+    "conditions of sheets *: check asked of no state": 2,
+    "conditions of sheets *: check as JSON": 110,
+    "conditions of sheets *: images": 144,
+    "conditions of sheets *: hunt": 144,
+    "conditions of sheets *: tally": 144,
+    "conditions of sheets *: fences": 58,
+    "conditions of sheets *: mend none": 45,
+    "conditions of sheets *: mend puts": 10,
+    "conditions of sheets *: E1": 1200,
+    "conditions of sheets *: E2": 130,
+    "conditions of sheets *: damaged, and no fault": 85,
+    "names of questions: *": 70,
+    "conditions that are made": 31,
+    "files *: N hold": 58,
+    "files *: a bad answer": 95,
+    "files *: nothing asked": 33,
+    "files *: a fault": 120,
+    "files *: an object": 48,
+    "files *: all of them": 84,
+    "files *: by the model": 10,
 }
 
 Lines = list[list[str]]
@@ -414,10 +437,15 @@ def example(px86: Px86, path: str) -> Checks:
 
 def cases() -> Iterator[Case]:
     """All cases."""
+    from tests.several_files import cases as of_files
+    from tests.sheet_conditions import cases as of_options
+
     for path in sorted(glob.glob("examples/**/*.asked", recursive=True, root_dir=TOP)):
         yield Case(path, example, path)
     for rows in LIMITS:
         yield from (Case(row.name, ASKS[row.asks], row) for row in rows())
+    yield from of_options()
+    yield from of_files()
     yield Case("an object", of_an_object)
     for first in range(0, SHEETS, OF_A_CASE):
         yield Case(f"sheets {first} to {first + OF_A_CASE - 1}", random_sheets, first)

@@ -257,7 +257,7 @@ ASKED = [
 def same_reports(px86: Px86, data: bytes, written: str, number: int) -> Checks:
     """A sheet and its written form behind the steps of a schedule."""
     sheet, text = px86.keep("sheet", data), px86.keep("written", written)
-    lines = program_of(data.decode()).sheet_lines or []
+    lines = program_of(data.decode()).told_lines or []
     steps = px86("replay", "--number", str(number), "--length", str(4 + number % 9), text, given="").written
     for words in ASKED:
         one, other = px86(*words, sheet, given=steps), px86(*words, text, given=steps)

@@ -17,7 +17,7 @@ from typing import Any
 from tests.failing_devices import FENCES, FLUSHED, FLUSHED_OBJECT, IMAGES, LIVE, NEXT, STATE, STEPS
 from tests.harness import Case, Checks, Px86, commands_of, run, unlike
 
-AT_LEAST = {"": 1597}
+AT_LEAST = {"": 1625}
 NEEDS_PROGRAM = True
 LIMIT = 2**26
 
@@ -242,6 +242,63 @@ def helps(px86: Px86) -> Checks:
     yield Asked(px86, nothing).ends("no words, all closed", (2, b"", b""), streams="<&- >&- 2>&-")
 
 
+QUESTIONED = "sheet 1\nline x\ncpu\nmov [x], 1\nend\nevery crash kept: persisted x <= 1\n"
+
+
+def several(px86: Px86) -> Checks:
+    """`check` of several FILEs: each in turn is read, and told, before the next one is read."""
+    it = Asked(px86, Command("check", None, ""))
+    files(px86, it.command)
+    for name in "good", "other":
+        px86.keep(name, QUESTIONED)
+    good, other = b"good: 1 hold\n", b"other: 1 hold\n"
+    all_told = good + b"text: nothing asked\nobject: nothing asked\n" + other
+    yield it.ends("a sheet, a text, an object and a sheet", (1, all_told, b""), *"good text object other".split())
+    for what in UNREADABLE:
+        yield it.ends(f"one FILE: {what}", (3, good + other, f"px86: {what}: F1 ReadFailed\n".encode()), "good", what, "other")
+    said = b"".join(b"px86: %s: F1 ReadFailed\n" % what.encode() for what in UNREADABLE)
+    yield it.ends("all that cannot be read", (3, b"", said), *UNREADABLE)
+    yield it.ends("too many bytes", (2, good + other, b"px86: long: F3 InputTooLong\n"), "good", "long", "other")
+    for streams in ["<folder", "0>/dev/null", "<&-", "</dev/zero"]:
+        yield it.ends(f"standard input: {streams}", (0, good + other, b""), "good", "other", streams=streams)
+    # What cannot be written ends the call.
+    reader, writer = os.pipe()
+    os.close(reader)
+    poll = select.poll()
+    poll.register(writer, 0)
+    poll.poll(60_000)
+    yield it.ends("a closed pipe", (3, b"", b"px86: good: F2 WriteFailed\n"), "good", "absent", stdout=writer)
+    os.close(writer)
+    unwritten = 3, b"", b"px86: absent: F1 ReadFailed\npx86: good: F2 WriteFailed\n"
+    for what in ">/dev/full", "1</dev/null":
+        yield it.ends(f"an output {what}", unwritten, *"absent good absent other".split(), streams=what)
+    # What cannot be read does not, nor what cannot be said.
+    said = b"".join(b"px86: %s: F1 ReadFailed\n" % what.encode() for what in ("good", "long", "fifo"))
+    yield it.ends("standard output is closed: no file is opened", (3, b"", said), "good", "long", "fifo", streams=">&-")
+    for what in "2>/dev/full", "2>&-":
+        yield it.ends(f"standard error {what}", (3, good + other, b""), "absent", "good", "folder", "other", streams=what)
+    yield it.ends("all are closed", (3, b"", b""), "good", "other", streams="<&- >&- 2>&-")
+    # FILE is a stream.
+    yield it.ends("two FILEs are a file as standard input", (0, b"/dev/stdin: 1 hold\n" * 2, b""), "/dev/stdin", "/dev/stdin", streams="<good")
+    ended = 2, b"/dev/stdin: 1 hold\n" + good, b"px86: /dev/stdin: X6 MissingEnd line 1\n"
+    yield it.ends("two FILEs are a pipe as standard input", ended, "/dev/stdin", "/dev/stdin", "good", streams="", given=QUESTIONED)
+    yield it.ends("FILE is a pipe", (0, good + b"fifo: 1 hold\n" + other, b""), "good", "fifo", "other", before="cat good >fifo &")
+    # The report of the first one goes on in the last line's question.
+    path = px86.keep("same", QUESTIONED)
+    yield it.ends("a FILE is standard output", (2, b"", b"px86: same: X11 BadCond line 7\n"), "good", "same", "other", streams=">>same")
+    with open(path, "rb") as file:
+        yield "the reports behind it", unlike(file.read(), QUESTIONED.encode() + good + other)
+    # STEPS are read anew.
+    px86.keep("crash", "crash\n")
+    done = 0, good + other, b""
+    yield it.ends("STEPS: a file", done, "--steps", "crash", "good", "other")
+    yield it.ends("STEPS: a file as standard input", done, "good", "other", "--steps", "/dev/stdin", streams="<crash")
+    bad = 2, b"", b"px86: good: S1 BadLine 1\npx86: other: S1 BadLine 1\n"
+    yield it.ends("STEPS: a FILE", bad, "good", "--steps", "good", "other")
+    unread = 3, b"", b"px86: good: F1 ReadFailed\npx86: other: F1 ReadFailed\n"
+    yield it.ends("STEPS: absent", unread, "good", "--steps", "absent", "other")
+
+
 TESTS = {
     "what FILE may be": read_from,
     "outputs that fail": outputs,
@@ -261,5 +318,6 @@ def with_files(px86: Px86, command: Command, what: str) -> Checks:
 def cases() -> Iterator[Case]:
     """All cases."""
     yield from (Case(f"{command.words}: {what}", with_files, command, what) for command in COMMANDS for what in TESTS)
+    yield Case("check of several FILEs", several)
     yield Case("texts that no command makes", helps)
     yield Case("commands", each_command)

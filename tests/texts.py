@@ -14,7 +14,8 @@ The others hold for the cases below them:
   steps            the texts are lists of steps of the program `litmus 1`
   conditions       the texts are conditions, of which WHAT may be `holds` or `fails` too. They are asked for where all
                    that is there has one value: words x and y of one line, and register rax of processor 0
-  at N             that value, as the report writes it
+  sheet TEXT       the same, but they are asked of this sheet, behind one step of its processor 0. `%` is as below
+  at N             that value, as the report writes it; of a sheet the values of its words
   many N TEXT      `%` stands for this text, written N times
   frame N TEXT     the cases' texts stand in place of `@` in this one, on line N, which faults leave out
   whole            they are whole texts, and faults have their line (so at a file's beginning)
@@ -58,7 +59,7 @@ from tests.harness import TOP, Case, Checks, Done, Px86, read, run, unlike
 NEEDS_PROGRAM = True
 FILES = sorted(os.path.basename(path) for kind in ("lines", "rows", "codes") for path in glob.glob(f"{TOP}/tests/cases/*.{kind}"))
 # Each file has a case, and the documents so many numbers.
-AT_LEAST = {"": 3423, "number ": 41} | {f"{name}: ": 1 for name in FILES}
+AT_LEAST = {"": 4622, "number ": 41} | {f"{name}: ": 1 for name in FILES}
 
 
 @dataclasses.dataclass(frozen=True)
@@ -202,6 +203,7 @@ class Lines:
     number: str = ""
     much: str = ""
     value: str = ""
+    sheet: str = ""
     names: tuple[str, ...] = ("*",)
 
     def hear(self, line: str) -> None:
@@ -209,6 +211,9 @@ class Lines:
         word, _, rest = line.partition(" ")
         if word in ("program", "steps", "conditions"):
             self.kind = {"program": "text", "steps": "steps", "conditions": "condition"}[word]
+        elif word == "sheet":
+            self.kind, self.sheet = "condition", rest
+            self.names = ("*",)
         elif word == "at":
             self.value = rest
         elif word == "many":
@@ -238,11 +243,16 @@ class Lines:
 
     def condition(self, what: str, text: str) -> Row:
         """That a condition holds, that it fails, or its fault."""
-        value, condition = self.value, unescaped(text).decode("utf-8", "surrogateescape")
-        command = "images", "--count", "--all", condition, "--some", condition
-        state = f"litmus 1\nline x y\ninit x {value}\ninit y {value}\ncpu\nmov rax, {value}\nend\n".encode()
-        told = {"holds": f"all holds\nsome found {value} {value}\n", "fails": f"all fails {value} {value}\nsome none\n"}.get(what)
-        name = f"{what}, {text}, at {value}"
+        value, condition = self.value, unescaped(text.replace("%", self.much)).decode("utf-8", "surrogateescape")
+        # A word that begins with `-` would be an option.
+        options = [[f"--{it}={condition}"] if condition.startswith("-") else [f"--{it}", condition] for it in ("all", "some")]
+        command = "images", "--count", *options[0], *options[1]
+        state, image = unescaped(self.sheet), value
+        if not self.sheet:
+            image = f"{value} {value}"
+            state = f"litmus 1\nline x y\ninit x {value}\ninit y {value}\ncpu\nmov rax, {value}\nend\n".encode()
+        told = {"holds": f"all holds\nsome found {image}\n", "fails": f"all fails {image}\nsome none\n"}.get(what)
+        name = f"{what}, {text}, {'of a sheet' if self.sheet else f'at {value}'}"
         if told is None:
             return Row(name, state, b"exec 0\n", command, 2, err=f"px86: {what}\n".encode())
         return Row(name, state, b"exec 0\n", command, int(what == "fails"), f"candidates 1\n{told}".encode())

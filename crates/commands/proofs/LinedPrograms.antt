@@ -1,5 +1,5 @@
 -- A program that is read with the lines of its instructions and its questions is the program, and a fault is the same.
-use Rattle.std.proofs.Common.{◌≡◌, ◌∙◌, ◌++◌, ℕ, false, true, None, Some, Result, Ok, Err, List, [], ap, ap₂, append-nil, inl, inr, refl, sym}
+use Rattle.std.proofs.Common.{◌≡◌, ◌∙◌, ◌++◌, ℕ, false, true, Option, None, Some, Result, Ok, Err, List, [], ap, append-nil, inl, inr, refl, sym}
 use Rattle.std.proofs.lemmas.Bool.{cases_Bool}
 use Rattle.std.specs.Prelude.{Contains}
 use Rattle.outcomes.specs.Outcomes.{◌>>=◌}
@@ -13,6 +13,7 @@ use Rattle.litmus_text.specs.TextLines.{TextLines}
 use Rattle.litmus_text.specs.Texts.{litmus_of}
 use Rattle.questions.specs.Questions.{NamedQuestion, Questioned}
 use Rattle.questions.specs.Reading.{questioned_of}
+use Rattle.questions.specs.Scopes.{Scope}
 use Rattle.sheets.specs.Reading.{is_sheet}
 use Rattle.sheets.proofs.ToldLines.{lines_are_said}
 use Rattle.commands.specs.declared.fault.Fault.{Fault}
@@ -21,16 +22,16 @@ use Rattle.commands.specs.declared.fault.Refused.{Refused}
 use Rattle.commands.specs.declared.fault.Refused.TheVariants as refusals
 use Rattle.commands.specs.declared.fault.Stage.{Stage}
 use Rattle.commands.specs.Faults.{stage_of}
-use Rattle.commands.specs.Programs.{asked_text_of, is_object_file, lined_work, lines_in_file, program_of, program_work, questioned_work, questions_in_file, questions_told, unasked}
+use Rattle.commands.specs.Programs.{asked_text_of, is_object_file, lined_work, lines_in_file, program_of, program_work, questioned_work, questions_in_file, questions_told, scope_in_file, scope_told, unasked}
 use Rattle.commands.specs.Works.{Makes, Work, and_then, done, reached_after, told_after}
 use Rattle.commands.proofs.AskedSheets.{asked_is_read}
 
--- an object with these lines, and with these questions
+-- an object with these lines, and with these questions and what conditions may name
 abbrev lined_with : TextLines → Object → LinedObject
 lined_with lines object = record { object = object; lines = lines }
 
-abbrev asked_with : List NamedQuestion → LinedObject → Questioned
-asked_with questions lined = record { lined = lined; questions = questions }
+abbrev asked_with : Option Scope → List NamedQuestion → LinedObject → Questioned
+asked_with scope questions lined = record { lined = lined; questions = questions; scope = scope }
 
 -- ---- a text
 
@@ -48,40 +49,40 @@ said_with (Ok object) lines lined e =
 said_with (Err fault) lines lined e = absurd (cc)
 
 -- a text that asks nothing
-record AsksNothing (said : Result LinedObject TextFault) (asked : Questioned) : Type 0 where
-  lined : said ≡ Ok asked.lined
-  nothing : asked.questions ≡ []
-
-asks_nothing : (said : Result LinedObject TextFault) (asked : Questioned) → unasked said ≡ Ok asked → AsksNothing said asked
-asks_nothing (Ok lined) asked e =
-    let whole : asked_with [] lined ≡ asked = cc in
+unasked_lined : (said : Result LinedObject TextFault) (asked : Questioned) → unasked said ≡ Ok asked → said ≡ Ok asked.lined
+unasked_lined (Ok lined) asked e =
+    let whole : asked_with None [] lined ≡ asked = cc in
     let same : lined ≡ asked.lined = ap (λ (q : Questioned). q.lined) whole in
-    let none : [] ≡ asked.questions = ap (λ (q : Questioned). q.questions) whole in
-    record { lined = rw same refl; nothing = sym none }
-asks_nothing (Err fault) asked e = absurd (cc)
+    rw same refl
+unasked_lined (Err fault) asked e = absurd (cc)
 
 -- ---- the whole file
 
 abbrev made_as : Questioned → Result Questioned Refused
 made_as asked = Ok asked
 
-made_with : (bytes : List ℕ) (asked : Questioned) → asked.lined.lines ≡ lines_in_file bytes → asked.questions ≡ questions_in_file bytes → program_of bytes ≡ Ok asked.lined.object
-    → Makes (questioned_work bytes) (Ok asked)
+-- the same parts make the same program
+same_parts : (asked : Questioned) (lines : TextLines) (questions : List NamedQuestion) (scope : Option Scope) → lines ≡ asked.lined.lines → questions ≡ asked.questions → scope ≡ asked.scope
+    → made_as (asked_with scope questions (lined_with lines asked.lined.object)) ≡ made_as asked
+same_parts asked lines questions scope l q s = rw (l, q, s) refl
+
+made_with : (bytes : List ℕ) (asked : Questioned) → asked.lined.lines ≡ lines_in_file bytes → asked.questions ≡ questions_in_file bytes → asked.scope ≡ scope_in_file bytes
+    → program_of bytes ≡ Ok asked.lined.object → Makes (questioned_work bytes) (Ok asked)
 unfolding Makes and_then done
-made_with bytes asked lines questions said =
-    rw said (ap₂ (λ (found : TextLines) (others : List NamedQuestion). made_as (asked_with others (lined_with found asked.lined.object))) (sym lines) (sym questions))
+made_with bytes asked lines questions scope said =
+    rw said (same_parts asked (lines_in_file bytes) (questions_in_file bytes) (scope_in_file bytes) (sym lines) (sym questions) (sym scope))
 
 -- a litmus text, and a sheet
 litmus_is_asked : (bytes : List ℕ) (asked : Questioned) → is_object_file bytes ≡ false → is_sheet bytes ≡ false → unasked (lined_of bytes) ≡ Ok asked → Makes (questioned_work bytes) (Ok asked)
 litmus_is_asked bytes asked other plain read =
-    let text = asks_nothing (lined_of bytes) asked read in
-    let said = said_with (litmus_of bytes) (Some (lines_found bytes)) asked.lined text.lined in
-    made_with bytes asked (rw (other, plain) said.lines_are) (rw (other, plain) text.nothing) (rw (other, plain, said.object) refl)
+    let text = unasked_lined (lined_of bytes) asked read in
+    let said = said_with (litmus_of bytes) (Some (lines_found bytes)) asked.lined text in
+    made_with bytes asked (rw (other, plain) said.lines_are) (rw (other, plain, read) refl) (rw (other, plain, read) refl) (rw (other, plain, said.object) refl)
 
 sheet_is_asked : (bytes : List ℕ) (asked : Questioned) → is_object_file bytes ≡ false → is_sheet bytes ≡ true → questioned_of bytes ≡ Ok asked → Makes (questioned_work bytes) (Ok asked)
 sheet_is_asked bytes asked other is read =
     let said = asked_is_read bytes asked read in
-    made_with bytes asked (rw (other, is) (lines_are_said bytes asked.lined said.0)) (rw (other, is) (sym (ap questions_told said.1))) (rw (other, is, read) refl)
+    made_with bytes asked (rw (other, is) (lines_are_said bytes asked.lined said)) (rw (other, is, read) refl) (rw (other, is, read) refl) (rw (other, is, read) refl)
 
 pub text_is_asked : (bytes : List ℕ) (asked : Questioned) → is_object_file bytes ≡ false → asked_text_of bytes ≡ Ok asked → Makes (questioned_work bytes) (Ok asked)
 text_is_asked bytes asked other read = elim (cases_Bool (is_sheet bytes)) [
@@ -104,8 +105,8 @@ text_is_refused bytes fault other read = elim (cases_Bool (is_sheet bytes)) [
 ]
 
 pub object_is_asked : (bytes : List ℕ) (object : Object) (lines : TextLines) → is_object_file bytes ≡ true → object_of bytes ≡ Ok object → lines ≡ None
-    → Makes (questioned_work bytes) (Ok (asked_with [] (lined_with lines object)))
-object_is_asked bytes object lines is read none = made_with bytes (asked_with [] (lined_with lines object)) (rw (is, none) refl) (rw is refl) (rw (is, read) refl)
+    → Makes (questioned_work bytes) (Ok (asked_with None [] (lined_with lines object)))
+object_is_asked bytes object lines is read none = made_with bytes (asked_with None [] (lined_with lines object)) (rw (is, none) refl) (rw is refl) (rw is refl) (rw (is, read) refl)
 
 -- ---- a part of what is made
 
@@ -139,10 +140,10 @@ fault_first work f (faults.Missing missing) made = missing_first work.reached wo
 fault_first work f (faults.Device device) made = made
 
 pub asked_is_lined : (bytes : List ℕ) (asked : Questioned) → Makes (questioned_work bytes) (Ok asked) → Makes (lined_work bytes) (Ok asked.lined)
-asked_is_lined bytes asked made = made_first (lined_work bytes) (asked_with (questions_in_file bytes)) (λ (q : Questioned). q.lined) (λ (l : LinedObject). refl) asked made
+asked_is_lined bytes asked made = made_first (lined_work bytes) (asked_with (scope_in_file bytes) (questions_in_file bytes)) (λ (q : Questioned). q.lined) (λ (l : LinedObject). refl) asked made
 
 pub asked_fault : (bytes : List ℕ) (fault : Fault) → Makes (questioned_work bytes) (Err fault) → Makes (lined_work bytes) (Err fault)
-asked_fault bytes fault made = fault_first (lined_work bytes) (asked_with (questions_in_file bytes)) fault made
+asked_fault bytes fault made = fault_first (lined_work bytes) (asked_with (scope_in_file bytes) (questions_in_file bytes)) fault made
 
 pub lined_is_read : (bytes : List ℕ) (lined : LinedObject) → Makes (lined_work bytes) (Ok lined) → Makes (program_work bytes) (Ok lined.object)
 lined_is_read bytes lined made = made_first (program_work bytes) (lined_with (lines_in_file bytes)) (λ (l : LinedObject). l.object) (λ (o : Object). refl) lined made

@@ -3,9 +3,7 @@ use Rattle.std.specs.Prelude.{◌≡◌, ℕ, Bool, true, if◌then◌else◌, O
 use Rattle.std.specs.List.{starts_with}
 use Rattle.outcomes.specs.Outcomes.{refused_as}
 use Rattle.text_tokens.specs.Text.{lines_of}
-use Rattle.lines_layout.specs.Layouts.{NamedLines}
 use Rattle.conditions.specs.Formulas.{Formula}
-use Rattle.conditions.specs.Texts.{condition_of}
 use Rattle.loader.specs.Reading.{object_of}
 use Rattle.litmus_text.specs.declared.fault.TextFault.{TextFault}
 use Rattle.litmus_text.specs.declared.text_lines.LinedObject.{LinedObject}
@@ -15,7 +13,9 @@ use Rattle.litmus_text.specs.SourceLines.{lines_found}
 use Rattle.litmus_text.specs.TextLines.{TextLines}
 use Rattle.litmus_text.specs.Texts.{litmus_of}
 use Rattle.questions.specs.Questions.{NamedQuestion, Questioned}
-use Rattle.questions.specs.Reading.{questioned_of, questions_of}
+use Rattle.questions.specs.Conditions.{asked_of}
+use Rattle.questions.specs.Reading.{questioned_of}
+use Rattle.questions.specs.Scopes.{Scope}
 use Rattle.sheets.specs.Reading.{is_sheet, lines_of_sheet, litmus_said}
 use Rattle.isa.specs.Objects as programs
 use Rattle.machine.specs.declared.refusal.Refusal.{Refusal}
@@ -65,7 +65,7 @@ lines_in_file bytes = if is_object_file bytes then None else lines_in_text bytes
 
 -- what a text says that asks nothing
 abbrev pub unasked : Result LinedObject TextFault → Result Questioned TextFault
-unasked (Ok lined) = Ok (record { lined = lined; questions = [] })
+unasked (Ok lined) = Ok (record { lined = lined; questions = []; scope = None })
 unasked (Err fault) = Err fault
 
 -- what a text says with its questions, or its fault: a sheet alone has questions
@@ -79,32 +79,37 @@ lined_work bytes = do
   done (record { object = object; lines = lines_in_file bytes })
 
 -- the questions that are read
-abbrev pub questions_told : Result (List NamedQuestion) TextFault → List NamedQuestion
-questions_told (Ok questions) = questions
+abbrev pub questions_told : Result Questioned TextFault → List NamedQuestion
+questions_told (Ok asked) = asked.questions
 questions_told (Err fault) = []
 
--- the questions of a text
-abbrev pub questions_in_text : List ℕ → List NamedQuestion
-questions_in_text bytes = if is_sheet bytes then questions_told (questions_of bytes) else []
+-- what a condition may name
+abbrev pub scope_told : Result Questioned TextFault → Option Scope
+scope_told (Ok asked) = asked.scope
+scope_told (Err fault) = None
 
 -- the questions of a program file, where it is a text
 abbrev pub questions_in_file : List ℕ → List NamedQuestion
-questions_in_file bytes = if is_object_file bytes then [] else questions_in_text bytes
+questions_in_file bytes = if is_object_file bytes then [] else questions_told (asked_text_of bytes)
 
--- the program that a file says, with its lines and its questions
+-- what a condition may name of a program file, where that is a sheet
+abbrev pub scope_in_file : List ℕ → Option Scope
+scope_in_file bytes = if is_object_file bytes then None else scope_told (asked_text_of bytes)
+
+-- the program that a file says, with its lines, its questions, and what a condition of it may name
 abbrev pub questioned_work : List ℕ → Work Questioned
 questioned_work bytes = do
   lined ← lined_work bytes
-  done (record { lined = lined; questions = questions_in_file bytes })
+  done (record { lined = lined; questions = questions_in_file bytes; scope = scope_in_file bytes })
 
--- a condition, read by the names of a layout
-abbrev pub condition_work : NamedLines → List ℕ → Work Formula
-condition_work names text = work stages.Conditions (refused_as (λ fault. refusals.Condition fault) (condition_of names text))
+-- a condition of a program
+abbrev pub condition_work : Questioned → List ℕ → Work Formula
+condition_work program text = work stages.Conditions (refused_as (λ fault. refusals.Condition fault) (asked_of program text))
 
 -- the same, if one is asked for
-abbrev pub asked_condition : NamedLines → Option (List ℕ) → Work (Option Formula)
-asked_condition names None = done None
-asked_condition names (Some text) = condition_work names text >>= λ condition. done (Some condition)
+abbrev pub asked_condition : Questioned → Option (List ℕ) → Work (Option Formula)
+asked_condition program None = done None
+asked_condition program (Some text) = condition_work program text >>= λ condition. done (Some condition)
 
 -- what a list of steps says
 abbrev pub list_of : List ℕ → Result (List Step) Refused
@@ -127,7 +132,7 @@ state_work end = work stages.Machine (state_after end)
 
 -- The questions of a sheet are read: none has a fault.
 abbrev pub HasGoodQuestions : List ℕ → Type 0
-HasGoodQuestions bytes = IsOk (questions_of bytes)
+HasGoodQuestions bytes = IsOk (questioned_of bytes)
 
 -- a sheet whose lines say the lines of a text of this value, and whose questions are good
 abbrev pub IsSheetOf : programs.Object → List ℕ → Type 0

@@ -1,5 +1,5 @@
 //! What the bytes of a program, a condition and a list of steps say.
-ghost use Rattle.std.specs.Prelude.{◌≡◌, [], length, map, IfOk, option_copied};
+ghost use Rattle.std.specs.Prelude.{◌≡◌, [], length, map, IfOk, None, option_copied};
 ghost use Rattle.std.specs.Result.{result_map_both};
 ghost use Rattle.outcomes.specs.Calls.{Answers};
 ghost use Rattle.outcomes.specs.Faults.{fault_in};
@@ -10,9 +10,8 @@ ghost use Rattle.commands.specs.Works.{Makes, work};
 ghost use Rattle.commands.specs.declared.fault.Stage.TheVariants as stages;
 
 use crate::fault::{Fault, Refused, Stage};
-use images::{Cond, read_cond};
+use images::Cond;
 use isa::Object;
-use lines_layout::Layout;
 use litmus_text::{LinedObject, TextFault, TextLines};
 use loader::read_object;
 use machine::{Machine, Step};
@@ -27,11 +26,12 @@ const OBJECT_FILE: &[u8] = b"PX86OBJ";
 
 /// A program that asks nothing.
 fn unasked(alloc: Global, lined: LinedObject) -> Questioned
-    ensures { result ≡ record { lined = lined; questions = [] } }
+    ensures { result ≡ record { lined = lined; questions = []; scope = None } }
 {
     Questioned {
         lined,
         questions: Vec::new(alloc),
+        scope: None,
     }
 }
 
@@ -46,7 +46,8 @@ fn read_text(alloc: Global, bytes: &[u8]) -> Result<Questioned, OrNoMemory<TextF
     Ok(unasked(alloc, lined))
 }
 
-/// What a program file says, the lines of its instructions and its questions, where it is a text. A sheet alone has questions.
+/// What a program file says, the lines of its instructions and its questions, where it is a text. A sheet alone has questions, and
+/// names for conditions.
 ///
 /// # Errors
 ///
@@ -95,16 +96,16 @@ pub fn read_program(alloc: Global, bytes: &[u8]) -> Result<Object, Fault>
     Ok(lined.object)
 }
 
-/// A condition, whose names are those of a layout.
+/// A condition of a program. Of a sheet it may name what the sheet's items name.
 ///
 /// # Errors
 ///
 /// A fault of the condition; out of memory.
 #[tactic(auto, unfolding(crate::specs::Works::Makes))]
-pub fn read_condition(alloc: Global, layout: &Layout, text: &str) -> Result<Cond, Fault>
-    ensures { Makes (condition_work layout.now text.now) result }
+pub fn read_condition(alloc: Global, program: &Questioned, text: &str) -> Result<Cond, Fault>
+    ensures { Makes (condition_work program.now text.now) result }
 {
-    match read_cond(alloc, layout, text.as_bytes()) {
+    match program.read_condition(alloc, text.as_bytes()) {
         Ok(cond) => Ok(cond),
         Err(error) => Err(Stage::Conditions.fault(error.map(|fault| Refused::Condition(fault)))),
     }
@@ -118,13 +119,13 @@ pub fn read_condition(alloc: Global, layout: &Layout, text: &str) -> Result<Cond
 #[tactic(auto, using(crate::proofs::WorksInTurn::turns))]
 pub fn condition_in(
     alloc: Global,
-    layout: &Layout,
+    program: &Questioned,
     text: Option<&str>,
 ) -> Result<Option<Cond>, Fault>
-    ensures { Makes (asked_condition layout.now (option_copied text.entry)) result }
+    ensures { Makes (asked_condition program.now (option_copied text.entry)) result }
 {
     match text {
-        Some(text) => Ok(Some(read_condition(alloc, layout, text)?)),
+        Some(text) => Ok(Some(read_condition(alloc, program, text)?)),
         None => Ok(None),
     }
 }

@@ -16,7 +16,13 @@ use Rattle.commands.specs.declared.jobs.Task.TheVariants.{Check, Do, Fences, Men
 use Rattle.conditions.specs.Texts.{condition_of}
 use Rattle.lines_layout.specs.Layouts.{NamedLines}
 use Rattle.line_forms.specs.Places.{before_comment}
+use Rattle.questions.specs.Conditions.{asked_of}
+use Rattle.questions.specs.Questions.{Questioned}
 use Rattle.text_tokens.specs.Text.{is_blank, lines_of, past_blanks}
+
+-- a text is no condition of a program
+abbrev pub is_misasked : Questioned → List ℕ → Bool
+is_misasked program text = not (is_ok (asked_of program text))
 
 -- a text is no condition on the words of these names
 abbrev pub is_faulty : NamedLines → List ℕ → Bool
@@ -62,15 +68,15 @@ questions_of (Mend options) = asked_of_runs options.asked
 questions_of _ = (None, None, None)
 
 -- a condition, if it is none, otherwise another
-abbrev pub faulty_or : NamedLines → Option Question → Option Question → Option Question
-faulty_or layout None other = other
-faulty_or layout (Some question) other = if is_faulty layout question.1 then Some question else other
+abbrev pub faulty_or : Questioned → Option Question → Option Question → Option Question
+faulty_or program None other = other
+faulty_or program (Some question) other = if is_misasked program question.1 then Some question else other
 
 -- the condition of a command that has the fault, where one has: the first that is none
-abbrev pub faulty_of : NamedLines → Task → Option Question
-faulty_of layout asked =
+abbrev pub faulty_of : Questioned → Task → Option Question
+faulty_of program asked =
     let questions = questions_of asked in
-    faulty_or layout questions.0 (faulty_or layout questions.1 questions.2)
+    faulty_or program questions.0 (faulty_or program questions.1 questions.2)
 
 -- a byte of a piece: blanks alone separate pieces
 abbrev pub is_solid : ℕ → Bool

@@ -1,20 +1,21 @@
 //! Faults of what the command line asks: of a condition, which one has it and where; of the values of `--set`. And conditions that
 //! ask of a processor that is not there.
 ghost use Rattle.std.specs.Prelude.{◌≡◌, IfOk};
-ghost use Rattle.explanations.specs.Questions.{asked_of_runs, condition_at_ends, condition_demanded, condition_of_schedules, faulty_of, faulty_or, given, is_faulty, questions_of};
+ghost use Rattle.explanations.specs.Questions.{asked_of_runs, condition_at_ends, condition_demanded, condition_of_schedules, faulty_of, faulty_or, given, is_faulty, is_misasked, questions_of};
 
 use crate::evidence::Evidence;
 use crate::hints::{OF_A_CONDITION, hint_of};
 use crate::marks::push_pointed;
-use crate::parts::{Pushed, again, push_hint, push_sentence};
+use crate::parts::{Pushed, again, bytes_at, push_hint, push_sentence};
 use crate::sentences::refused_sentence;
 use crate::slips::condition_meant;
 use crate::spots::Spot;
 use commands::{AskedRuns, Demand, EndsOptions, Job, Refused, ScheduleJob, Task, read_program};
-use conditions::read_cond;
-use line_forms::condition_or_end;
+use conditions::{CondFault, TokenFault, read_cond};
+use line_forms::{Place, condition_or_end, statement_or_end};
 use lines_layout::Layout;
 use outcomes::OrNoMemory;
+use questions::Questioned;
 use std::alloc::{AllocError, Global};
 use std::marker::Model;
 use text_tokens::{Tokens, small_number};
@@ -143,19 +144,34 @@ pub(crate) fn is_faulty(alloc: Global, layout: &Layout, text: &[u8]) -> Result<b
     }
 }
 
+/// Whether a text is no condition of a program.
+///
+/// # Errors
+///
+/// Out of memory.
+fn is_misasked(alloc: Global, program: &Questioned, text: &[u8]) -> Result<bool, AllocError>
+    ensures { IfOk result (λ faulty. faulty ≡ is_misasked program.now text.now) }
+{
+    match program.read_condition(alloc, text) {
+        Ok(_) => Ok(false),
+        Err(OrNoMemory::Fault(_)) => Ok(true),
+        Err(OrNoMemory::NoMemory) => Err(AllocError),
+    }
+}
+
 /// A condition, if it has a fault, otherwise another.
 fn faulty_or<'a>(
     alloc: Global,
-    layout: &Layout,
+    program: &Questioned,
     question: Option<Question<'a>>,
     other: Option<Question<'a>>,
 ) -> Result<Option<Question<'a>>, AllocError>
-    ensures { IfOk result (λ found. found ≡ faulty_or layout.now question.entry other.entry) }
+    ensures { IfOk result (λ found. found ≡ faulty_or program.now question.entry other.entry) }
 {
     let Some(question) = question else {
         return Ok(other);
     };
-    if is_faulty(alloc, layout, question.text.as_bytes())? {
+    if is_misasked(alloc, program, question.text.as_bytes())? {
         Ok(Some(question))
     } else {
         Ok(other)
@@ -165,14 +181,14 @@ fn faulty_or<'a>(
 /// The condition with the fault, where one of a command's conditions has one: the first that is faulty.
 fn faulty_question<'a>(
     alloc: Global,
-    layout: &Layout,
+    program: &Questioned,
     asked: Task<'a>,
 ) -> Result<Option<Question<'a>>, AllocError>
-    ensures { IfOk result (λ found. found ≡ faulty_of layout.now asked.entry) }
+    ensures { IfOk result (λ found. found ≡ faulty_of program.now asked.entry) }
 {
     let (first, second, third) = questions_of(asked);
-    let later = faulty_or(alloc, layout, second, third)?;
-    faulty_or(alloc, layout, first, later)
+    let later = faulty_or(alloc, program, second, third)?;
+    faulty_or(alloc, program, first, later)
 }
 
 /// Appends what there is to say of the token of this index, from 0, of a condition.
@@ -191,32 +207,73 @@ pub(crate) fn push_token_sentence(
     }
 }
 
-/// Appends a condition after its option, with marks under its token of this index, from 0, and what there is to say of it.
-fn push_question(
+/// One sentence on a token of a condition of a sheet, where that of a litmus text would not be true of it; else nothing.
+fn hint_of_sheet(kind: TokenFault) -> &'static str {
+    match kind {
+        TokenFault::BadCond =>
+            "this token may not be here, or one is missing. A condition of a sheet is written as one of its questions, and may name these and what a `let` names.",
+        TokenFault::UnknownName =>
+            "the sheet gives no word, constant or question this name, and no `let` does; or it has no processor of this number.",
+    }
+}
+
+/// Where the token of this index, from 0, of a condition is.
+fn place_in(program: &Questioned, condition: &[u8], index: usize) -> Place {
+    if program.scope.is_some() {
+        statement_or_end(condition, index)
+    } else {
+        condition_or_end(condition, index)
+    }
+}
+
+/// Appends what there is to say of a token of a condition of a sheet.
+fn push_sheet_sentence(
     text: &mut String,
     layout: &Layout,
-    question: &Question<'_>,
-    index: usize,
+    token: &[u8],
+    kind: TokenFault,
     sentence: &str,
 ) -> Pushed {
+    match condition_meant(token, b"persisted", layout) {
+        Some((meant, word)) if matches!(kind, TokenFault::UnknownName) => {
+            push_hint(text, sentence, meant, word)
+        }
+        _ => push_sentence(text, sentence, hint_of_sheet(kind)),
+    }
+}
+
+/// Appends a condition after its option, with marks under the token of its fault, and what there is to say of it.
+fn push_question(
+    text: &mut String,
+    program: &Questioned,
+    question: &Question<'_>,
+    fault: CondFault,
+    sentence: &str,
+) -> Pushed {
+    let CondFault::At(kind, index) = fault;
+    let layout = program.lined.object.layout();
     let line = question.text.as_bytes();
-    let place = condition_or_end(line, index);
+    let place = place_in(program, line, index);
     text.push_str(question.option)?;
     push_pointed(text, question.option.len(), line, place)?;
     text.push_str("\n")?;
-    push_token_sentence(text, layout, line, index, sentence)
+    if program.scope.is_some() {
+        push_sheet_sentence(text, layout, bytes_at(line, place), kind, sentence)
+    } else {
+        push_token_sentence(text, layout, line, index, sentence)
+    }
 }
 
-/// Appends the lines for a fault at the token of this index, from 0, of a condition of the command line.
+/// Appends the lines for a fault of a condition of the command line.
 pub(crate) fn push_condition_fault(
     text: &mut String,
-    layout: &Layout,
+    program: &Questioned,
     asked: Task<'_>,
-    index: usize,
+    fault: CondFault,
     sentence: &str,
 ) -> Pushed {
-    match faulty_question(*text.allocator(), layout, asked)? {
-        Some(question) => push_question(text, layout, &question, index, sentence),
+    match faulty_question(*text.allocator(), program, asked)? {
+        Some(question) => push_question(text, program, &question, fault, sentence),
         None => push_sentence(text, sentence, ""),
     }
 }

@@ -8,10 +8,11 @@ use crate::script_faults::{push_double_id, push_script_line_fault, push_stop_fau
 use crate::sentences::{refused_sentence, sentence};
 use crate::sheet_faults::push_sheet_fault;
 use crate::step_faults::push_step_fault;
-use commands::{Fault, Refused, ScriptFault, Task, read_program};
+use commands::{Fault, Refused, ScriptFault, Task, read_questions};
 use images::CondFault;
 use lines_layout::Layout;
 use litmus_text::TextFault;
+use questions::Questioned;
 use sheets::is_sheet;
 use std::alloc::{AllocError, Global};
 
@@ -47,17 +48,18 @@ fn push_usage(text: &mut String, layout: &Layout, asked: Task<'_>) -> Pushed {
     }
 }
 
-/// Appends the lines for a fault of what was asked on the words of a layout.
+/// Appends the lines for a fault of what was asked of a program.
 fn push_fault_on(
     text: &mut String,
-    layout: &Layout,
+    program: &Questioned,
     evidence: &Evidence<'_>,
     refused: Refused,
 ) -> Pushed {
     let sentence = refused_sentence(refused);
+    let layout = program.lined.object.layout();
     match refused {
-        Refused::Condition(CondFault::At(_, index)) => {
-            push_condition_fault(text, layout, evidence.asked, index, sentence)
+        Refused::Condition(fault) => {
+            push_condition_fault(text, program, evidence.asked, fault, sentence)
         }
         Refused::Script(ScriptFault::Condition(CondFault::At(_, index))) => {
             push_stop_fault(text, layout, evidence.steps, index, sentence)
@@ -70,10 +72,10 @@ fn push_fault_on(
     }
 }
 
-/// Appends the lines for a fault of what was asked on the words of the program: the sentence alone, where it has a fault.
+/// Appends the lines for a fault of what was asked of the program: the sentence alone, where that has a fault.
 fn push_fault_of_words(text: &mut String, evidence: &Evidence<'_>, refused: Refused) -> Pushed {
-    match again(read_program(*text.allocator(), evidence.program))? {
-        Some(object) => push_fault_on(text, object.layout(), evidence, refused),
+    match again(read_questions(*text.allocator(), evidence.program))? {
+        Some(program) => push_fault_on(text, &program, evidence, refused),
         None => push_sentence(text, refused_sentence(refused), ""),
     }
 }

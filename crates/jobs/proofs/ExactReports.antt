@@ -9,21 +9,22 @@ use Rattle.commands.specs.declared.fault.Refused.{Refused}
 use Rattle.commands.specs.declared.jobs.ImagesOptions.{ImagesOptions}
 use Rattle.commands.specs.Programs.{list_work}
 use Rattle.commands.specs.Works.{Makes}
+use Rattle.questions.specs.Questions.{Questioned}
 use Rattle.jobs.specs.ImageReports.{Question, looks}
 use Rattle.jobs.specs.Reports.{question_work, IsOfImagesOn, IsOfSetOn}
 use Rattle.jobs.specs.Values.{values_work}
 
-pub all_images_on : (options : ImagesOptions) (object : Object) (steps : List ℕ) (question : Question) (list : List Step)
-    → Makes (question_work object.layout options) (Ok question) → Makes (list_work steps) (Ok list)
-    → (looks question ≡ true → IsListing (run_of list (opening object)).state (images_of (run_of list (opening object)).state))
-    → IsOfImagesOn options object steps
+pub all_images_on : (options : ImagesOptions) (program : Questioned) (steps : List ℕ) (question : Question) (list : List Step)
+    → Makes (question_work program options) (Ok question) → Makes (list_work steps) (Ok list)
+    → (looks question ≡ true → IsListing (run_of list (opening program.lined.object)).state (images_of (run_of list (opening program.lined.object)).state))
+    → IsOfImagesOn options program steps
 unfolding Makes
-all_images_on options object steps question list read_question read_list listed q xs question_is list_is looks_at =
+all_images_on options program steps question list read_question read_list listed q xs question_is list_is looks_at =
     let same_question : ◌≡◌ {A = Result Question Refused} (Ok question) (Ok q) = sym read_question ∙ question_is in
     let asked_is : question ≡ q = cc in
     let same_list : ◌≡◌ {A = Result (List Step) Refused} (Ok list) (Ok xs) = sym read_list ∙ list_is in
     let steps_are : list ≡ xs = cc in
-    subst (λ (ys : List Step). IsListing (run_of ys (opening object)).state (images_of (run_of ys (opening object)).state)) steps_are
+    subst (λ (ys : List Step). IsListing (run_of ys (opening program.lined.object)).state (images_of (run_of ys (opening program.lined.object)).state)) steps_are
     (listed (ap looks asked_is ∙ looks_at))
 
 pub least_set_on : (text : List ℕ) (object : Object) (steps image : List ℕ) (list : List Step)

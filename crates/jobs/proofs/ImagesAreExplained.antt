@@ -25,8 +25,8 @@ use Rattle.explore.proofs.CoveredSteps.{sound_whole}
 use Rattle.explore.proofs.SoundRuns.{of_itself, run_of_it}
 use Rattle.commands.specs.declared.fault.Refused.{Refused}
 use Rattle.commands.specs.declared.jobs.CheckOptions.{CheckOptions}
-use Rattle.commands.specs.Programs.{lined_work, unless_refused}
-use Rattle.litmus_text.specs.declared.text_lines.LinedObject.{LinedObject}
+use Rattle.commands.specs.Programs.{questioned_work, unless_refused}
+use Rattle.questions.specs.Questions.{Questioned}
 use Rattle.commands.specs.Works.{◌>>=◌, Work, and_then, done, told_after}
 use Rattle.jobs.specs.declared.start.Start.{Start}
 use Rattle.jobs.specs.CheckReports.{IsCrashExplained, IsExplained}
@@ -81,17 +81,17 @@ module _ (start : Start) where
   by_asked object (Ok asked) told = by_refusal object asked.0 asked.1 (run_of asked.1.steps (opening object)).refusal refl told
   by_asked object (Err refused) told = absurd (cc)
 
-  abbrev asked_and_started : CheckOptions → List ℕ → LinedObject → Work Start
-  asked_and_started options steps lined = check_asked options lined.object.layout lined.lines steps >>= started_on lined.object
+  abbrev asked_and_started : CheckOptions → List ℕ → Questioned → Work Start
+  asked_and_started options steps program = check_asked options program steps >>= started_on program.lined.object
 
-  by_program : (options : CheckOptions) (steps : List ℕ) (read : Result LinedObject Refused) → told_after read (asked_and_started options steps) ≡ Ok start → IsBegun start
+  by_program : (options : CheckOptions) (steps : List ℕ) (read : Result Questioned Refused) → told_after read (asked_and_started options steps) ≡ Ok start → IsBegun start
   unfolding and_then
-  by_program options steps (Ok lined) told = by_asked lined.object (check_asked options lined.object.layout lined.lines steps).told told
+  by_program options steps (Ok program) told = by_asked program.lined.object (check_asked options program steps).told told
   by_program options steps (Err refused) told = absurd (cc)
 
 begun : (options : CheckOptions) (program steps : List ℕ) (start : Start) → (check_start options program steps).told ≡ Ok start → IsBegun start
 unfolding and_then
-begun options program steps start told = by_program start options steps (lined_work program).told told
+begun options program steps start told = by_program start options steps (questioned_work program).told told
 
 -- ---- both
 

@@ -1,5 +1,5 @@
 -- What is reported of the questions of a program is what is found of them.
-use Rattle.std.proofs.Common.{◌≡◌, ◌∙◌, ℕ, Result, Ok, Err, List, [], ◌∷◌, ap, arith, refl, subst, sym}
+use Rattle.std.proofs.Common.{◌≡◌, ◌∙◌, ℕ, ◌==◌, ◌++◌, if◌then◌else◌, Option, None, Some, Result, Ok, Err, List, [], ◌∷◌, codes, length, ap, arith, refl, subst, sym}
 use Rattle.std.specs.Prelude.{Contains}
 use Rattle.lines_layout.specs.Names.{Text}
 use Rattle.explore.specs.declared.fault.ExploreFault.{ExploreFault}
@@ -16,7 +16,9 @@ use Rattle.jobs.specs.declared.question_answer.QuestionsFound.{QuestionsFound}
 use Rattle.jobs.specs.declared.start.Start.{Start}
 use Rattle.jobs.specs.Forms.{printed}
 use Rattle.jobs.specs.Questions.{Asking, asking_of}
-use Rattle.jobs.specs.QuestionReports.{found_text, IsFound, IsPrinted, IsReported}
+use Rattle.jobs.specs.QuestionReports.{first_bad, found_text, judged_text, IsFound, IsPrinted, IsReported}
+use Rattle.jobs.specs.declared.question_answer.Answered.{Answered}
+use Rattle.commands.specs.ImageTexts.{line}
 use Rattle.jobs.specs.Starts.{fault_of, IsReady}
 
 -- memory for it is that of an exploration
@@ -53,11 +55,23 @@ reported says options asking (Err fault) made ready found is =
     err_as f = Err f
 
 -- what is said of it does not depend on what is asked last
-pub same_text : (options : QuestionOptions) (question : Question) (start : Start) (found : QuestionsFound) → found_text options (asking_of question start) found ≡ found_text options start found
-same_text options question start found = refl
+same_judged : (options : QuestionOptions) (question : Question) (start : Start) (answers : List Answered) (bad : Option Answered)
+    → judged_text options (asking_of question start) answers bad ≡ judged_text options start answers bad
+same_judged options question start answers None = refl
+same_judged options question start answers (Some bad) = refl
+
+pub same_text : (file : Option Text) (options : QuestionOptions) (question : Question) (start : Start) (found : QuestionsFound)
+    → found_text file options (asking_of question start) found ≡ found_text file options start found
+same_text None options question start found = refl
+same_text (Some file) options question start found =
+    let answers = found.answers.items in
+    ap (λ (said : Text). file ++ (codes ": " ++ (if length answers == 0 then line (codes "nothing asked") else said))) (same_judged options question start answers (first_bad answers))
 
 -- what is reported by a start that asks something else
-pub reported_later : (options : QuestionOptions) (asking : Asking) (later : Start) (found : Result (Answer QuestionsFound) Fault) (made : Result Report Fault) → IsReady asking.start.machine
-    → later ≡ asking_of later.question asking.start → IsFound options asking found → IsPrinted (found_text options later) found made → IsReported (found_text options) options asking made
-reported_later options asking later found made ready kept right is =
-    reported (found_text options) options asking found made ready right (subst (λ (s : Start). IsPrinted (found_text options s) found made) kept is)
+pub reported_later : (file : Option Text) (options : QuestionOptions) (asking : Asking) (later : Start) (found : Result (Answer QuestionsFound) Fault) (made : Result Report Fault)
+    → IsReady asking.start.machine → later ≡ asking_of later.question asking.start → IsFound options asking found → IsPrinted (found_text file options later) found made
+    → IsReported (found_text file options) options asking made
+reported_later file options asking later found made ready kept right is =
+    let here = subst (λ (s : Start). IsPrinted (found_text file options s) found made) kept is in
+    let said = subst (λ (says : QuestionsFound → Text). IsPrinted says found made) (λ i found. same_text file options later.question asking.start found i) here in
+    reported (found_text file options) options asking found made ready right said

@@ -1,5 +1,5 @@
 -- The report of the questions of a program, in lines, and the command that makes it.
-use Rattle.std.specs.Prelude.{◌≡◌, ℕ, true, if◌then◌else◌, not, ◌&&◌, ◌||◌, ◌==◌, Bool, Option, Some, None, Result, Ok, Err, List, [], ◌∷◌, ◌++◌, codes, decimal, length, map}
+use Rattle.std.specs.Prelude.{◌≡◌, ℕ, true, false, if◌then◌else◌, not, ◌&&◌, ◌||◌, ◌==◌, Bool, Option, Some, None, Result, Ok, Err, List, [], ◌∷◌, ◌++◌, codes, count_by, decimal, find, length, map}
 use Rattle.std.specs.List.{flat_map, list_all}
 use Rattle.lines_layout.specs.Layouts.{NamedLines}
 use Rattle.lines_layout.specs.Lines.{word_at}
@@ -85,9 +85,43 @@ answered_text options start one =
 abbrev pub answers_text : QuestionOptions → Start → List Answered → Text
 answers_text options start answers = if length answers == 0 then line (codes "nothing asked") else flat_map (answered_text options start) answers
 
+-- ---- the report of one of several files
+
+-- whether a question is asked: not of ends after a crash, where runs do not crash
+abbrev pub is_asked : QuestionAnswer → Bool
+is_asked answers.NotAsked = false
+is_asked _ = true
+
+-- how many questions are asked
+abbrev pub asked_count : List Answered → ℕ
+asked_count answers = count_by (λ one. is_asked one.answer) answers
+
+-- the same, where all answers are good
+abbrev pub good_text : List Answered → Text
+good_text answers = line (decimal (asked_count answers) ++ codes " hold")
+
+-- the first answer that is not good
+abbrev pub first_bad : List Answered → Option Answered
+first_bad answers = find (λ one. not (is_good one.answer)) answers
+
+-- what is said of answers, of which this is the first that is not good: its question alone
+abbrev pub judged_text : QuestionOptions → Start → List Answered → Option Answered → Text
+judged_text options start answers None = good_text answers
+judged_text options start answers (Some bad) = answered_text options start bad
+
+-- the line of a file: its name, and whether all its answers are good; or that it asks nothing
+abbrev pub file_text : Text → QuestionOptions → Start → List Answered → Text
+file_text file options start answers =
+    file ++ (codes ": " ++ (if length answers == 0 then line (codes "nothing asked") else judged_text options start answers (first_bad answers)))
+
+-- the report of answers: in short, where their file is one of several
+abbrev pub text_for : Option Text → QuestionOptions → Start → List Answered → Text
+text_for None options start answers = answers_text options start answers
+text_for (Some file) options start answers = file_text file options start answers
+
 -- the same of what is found
-abbrev pub found_text : QuestionOptions → Start → QuestionsFound → Text
-found_text options start found = answers_text options start found.answers.items
+abbrev pub found_text : Option Text → QuestionOptions → Start → QuestionsFound → Text
+found_text file options start found = text_for file options start found.answers.items
 
 -- whether all answers are good
 abbrev pub are_good : List Answered → Bool
@@ -126,6 +160,6 @@ asking_command says options = record {
   May = λ both made. MakesThen (asking_start options both.program both.steps) (λ asking report. IsReported (says options) options asking report) made;
 }
 
--- `check` that asks the questions of a program
-unfoldable pub ask_command : QuestionOptions → Command
-ask_command options = asking_command found_text options
+-- `check` that asks the questions of a program, whose file has a name, where it is one of several
+unfoldable pub ask_command : Option Text → QuestionOptions → Command
+ask_command file options = asking_command (found_text file) options

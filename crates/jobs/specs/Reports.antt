@@ -20,7 +20,7 @@ use Rattle.commands.specs.declared.fault.Stage.TheVariants as stages
 use Rattle.commands.specs.declared.status.Status.{Status}
 use Rattle.commands.specs.declared.status.Status.TheVariants.{Done, Unmet, Refused}
 use Rattle.commands.specs.declared.jobs.ImagesOptions.{ImagesOptions}
-use Rattle.commands.specs.Programs.{asked_condition, lined_work, list_of, list_work, program_of, program_work, state_work}
+use Rattle.commands.specs.Programs.{asked_condition, lined_work, list_of, list_work, program_of, program_work, questioned_work, state_work}
 use Rattle.jobs.specs.declared.form.Answer.{Answer}
 use Rattle.jobs.specs.Forms.{answer_of, command_work}
 use Rattle.commands.specs.Works.{◌>>=◌, Work, done, work}
@@ -31,6 +31,7 @@ use Rattle.commands.specs.declared.jobs.SetOptions.{SetOptions}
 use Rattle.litmus_text.specs.TextLines.{TextLines}
 use Rattle.jobs.specs.declared.image_told.WithImage.{WithImage}
 use Rattle.jobs.specs.ImagesTold.{ImageTold, explained_lines, image_broken, image_left, told_work}
+use Rattle.questions.specs.Questions.{Questioned}
 use Rattle.schedule.specs.Schedules.{schedule_of}
 use Rattle.schedule.specs.Written.{steps_text}
 use Rattle.machine.specs.State.{State}
@@ -100,11 +101,11 @@ dis_work program = do
   object ← program_work program
   work stages.Text (Ok (dis_of object))
 
--- what is asked about the images, its conditions read by the names of a layout
-abbrev pub question_work : NamedLines → ImagesOptions → Work Question
-question_work names options = do
-  all ← asked_condition names (option_copied options.all)
-  some ← asked_condition names (option_copied options.some)
+-- what is asked about the images of a program
+abbrev pub question_work : Questioned → ImagesOptions → Work Question
+question_work program options = do
+  all ← asked_condition program (option_copied options.all)
+  some ← asked_condition program (option_copied options.some)
   done (record { only_count = options.only_count; all = all; some = some })
 
 -- what is found of the images of the state that a run left
@@ -126,25 +127,25 @@ images_told asked object question list = do
   done (with_image answer told)
 
 -- images: the steps are made, and what is asked about the images of the state is found
-abbrev pub images_found : ImagesOptions → programs.Object → List ℕ → Work (Answer (WithImage Listing))
-images_found options object steps = do
-  question ← question_work object.layout options
+abbrev pub images_found : ImagesOptions → Questioned → List ℕ → Work (Answer (WithImage Listing))
+images_found options program steps = do
+  question ← question_work program options
   list ← list_work steps
-  images_told options.explains_image object question list
+  images_told options.explains_image program.lined.object question list
 
 -- its lines: those of what is found, and those of the image
 abbrev pub images_text : Bool → NamedLines → TextLines → WithImage Listing → List ℕ
 images_text named names lines found = listing_text named names found.found ++ explained_lines names lines found.told
 
-abbrev pub images_on : ImagesOptions → programs.Object → TextLines → List ℕ → Work Report
-images_on options object lines steps =
-    command_work (images_found options object steps) stages.Images (images_text options.names object.layout lines)
+abbrev pub images_on : ImagesOptions → Questioned → List ℕ → Work Report
+images_on options program steps =
+    command_work (images_found options program steps) stages.Images (images_text options.names program.lined.object.layout program.lined.lines)
 
--- the program is read with the lines of its text, on which instructions are named
+-- the program is read with the lines of its text, on which instructions are named, and with what conditions may name
 abbrev pub images_work : ImagesOptions → List ℕ → List ℕ → Work Report
 images_work options program steps = do
-  lined ← lined_work program
-  images_on options lined.object lined.lines steps
+  read ← questioned_work program
+  images_on options read steps
 
 -- the pending entries that leave one image of the state that a run left
 abbrev pub set_after : List ℕ → End → Work (Answer (Option (List ℕ)))
@@ -245,16 +246,16 @@ IsReadAgain program = (object : programs.Object) → program_of program ≡ Ok o
 -- which the answer is defined has each image once, ascending, and nothing else.
 abbrev pub IsOfAllImages : ImagesOptions → List ℕ → List ℕ → Type 0
 IsOfAllImages options program steps =
-    (object : programs.Object) (question : Question) (list : List Step)
-    → program_of program ≡ Ok object → (question_work object.layout options).told ≡ Ok question → list_of steps ≡ Ok list → looks question ≡ true
-    → IsListing (run_of list (opening object)).state (images_of (run_of list (opening object)).state)
+    (read : Questioned) (question : Question) (list : List Step)
+    → (questioned_work program).told ≡ Ok read → (question_work read options).told ≡ Ok question → list_of steps ≡ Ok list → looks question ≡ true
+    → IsListing (run_of list (opening read.lined.object)).state (images_of (run_of list (opening read.lined.object)).state)
 
 -- The same of a program that was read.
-abbrev pub IsOfImagesOn : ImagesOptions → programs.Object → List ℕ → Type 0
-IsOfImagesOn options object steps =
+abbrev pub IsOfImagesOn : ImagesOptions → Questioned → List ℕ → Type 0
+IsOfImagesOn options program steps =
     (question : Question) (list : List Step)
-    → (question_work object.layout options).told ≡ Ok question → list_of steps ≡ Ok list → looks question ≡ true
-    → IsListing (run_of list (opening object)).state (images_of (run_of list (opening object)).state)
+    → (question_work program options).told ≡ Ok question → list_of steps ≡ Ok list → looks question ≡ true
+    → IsListing (run_of list (opening program.lined.object)).state (images_of (run_of list (opening program.lined.object)).state)
 
 -- What `images --set` answers is the least closed set that leaves the image, of the state to which the steps lead, or
 -- that the image is none of its images.

@@ -1,6 +1,5 @@
 -- What an exploration of all runs begins with, and what may be answered of it.
 use Rattle.std.specs.Prelude.{◌≡◌, ℕ, Bool, false, not, None, option_copied, Result, Ok, Err, List}
-use Rattle.lines_layout.specs.Layouts.{NamedLines}
 use Rattle.isa.specs.Objects.{Object}
 use Rattle.machine.specs.Objects.{opening}
 use Rattle.machine.specs.State.{State}
@@ -18,21 +17,22 @@ use Rattle.commands.specs.declared.fault.Stage.TheVariants as stages
 use Rattle.commands.specs.declared.jobs.CheckOptions.{CheckOptions}
 use Rattle.commands.specs.declared.jobs.OutcomesOptions.{OutcomesOptions}
 use Rattle.commands.specs.Faults.{missing}
-use Rattle.commands.specs.Programs.{asked_condition, lined_work, list_work, state_work}
+use Rattle.commands.specs.Programs.{asked_condition, lined_work, list_work, questioned_work, state_work}
 use Rattle.commands.specs.Serving.{Report}
 use Rattle.commands.specs.Works.{◌>>=◌, Work, done}
 use Rattle.jobs.specs.Given.{Given}
 use Rattle.litmus_text.specs.TextLines.{TextLines}
+use Rattle.questions.specs.Questions.{Questioned}
 use Rattle.jobs.specs.declared.start.Start.{Start}
 
 -- ---- what is asked
 
 -- `check`: its conditions, read in their order, and whether it lists images; runs crash, unless those that do not crash alone are asked about
-abbrev pub check_question : CheckOptions → NamedLines → Work Question
-check_question options names = do
-  all ← asked_condition names (option_copied options.all)
-  ends ← asked_condition names (option_copied options.ends)
-  recovered ← asked_condition names (option_copied options.recovered)
+abbrev pub check_question : CheckOptions → Questioned → Work Question
+check_question options program = do
+  all ← asked_condition program (option_copied options.all)
+  ends ← asked_condition program (option_copied options.ends)
+  recovered ← asked_condition program (option_copied options.recovered)
   done (record { crashes = not options.before_crash; all = all; ends = ends; recovered = recovered; images = options.images })
 
 -- no condition, and no images; runs crash, or do not
@@ -54,18 +54,18 @@ start_on object question given = do
   done (record { object = object; question = question; machine = machine; given = given })
 
 -- what `check` is asked, and what it is given
-abbrev pub check_asked : CheckOptions → NamedLines → TextLines → List ℕ → Work (Question × Given)
-check_asked options names lines steps = do
-  question ← check_question options names
-  given ← given_work lines steps
+abbrev pub check_asked : CheckOptions → Questioned → List ℕ → Work (Question × Given)
+check_asked options program steps = do
+  question ← check_question options program
+  given ← given_work program.lined.lines steps
   done (question, given)
 
 -- what `check` begins with
 abbrev pub check_start : CheckOptions → List ℕ → List ℕ → Work Start
 check_start options program steps = do
-  lined ← lined_work program
-  asked ← check_asked options lined.object.layout lined.lines steps
-  start_on lined.object asked.0 asked.1
+  read ← questioned_work program
+  asked ← check_asked options read steps
+  start_on read.lined.object asked.0 asked.1
 
 -- what `outcomes` begins with: runs crash where ends after a crash are asked for
 abbrev pub outcomes_start : OutcomesOptions → List ℕ → List ℕ → Work Start

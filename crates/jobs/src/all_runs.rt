@@ -1,5 +1,6 @@
 //! The commands that explore every run: what they read is read whole, the report is made of those bytes, and then it is
 //! written.
+ghost use Rattle.std.specs.Prelude.{option_copied};
 ghost use Rattle.commands.specs.Devices.{CanCountOneMore};
 ghost use Rattle.commands.specs.Serving.{Serves, used};
 ghost use Rattle.jobs.specs.QuestionReports.{ask_command};
@@ -48,7 +49,8 @@ pub fn check<P: Source, S: Source, W: Sink, G: Gate>(
 
 /// Asks the questions of a program of every run: reads the program, and then the steps, to their ends, makes the report of the
 /// answers, and then writes it. The gate is told the same as by [`check`], of each exploration: of one for each question, and of
-/// one more for a left side where what the question asks holds.
+/// one more for a left side where what the question asks holds. Where the file is one of several, it has a name: the report is then
+/// one line, which begins with it.
 ///
 /// # Errors
 ///
@@ -57,6 +59,7 @@ pub fn check<P: Source, S: Source, W: Sink, G: Gate>(
 #[tactic(auto, using(commands::proofs::ServedCommands::served), unfolding(crate::specs::QuestionReports::ask_command))]
 pub fn ask<P: Source, S: Source, W: Sink, G: Gate>(
     alloc: Global,
+    file: Option<&str>,
     options: &QuestionOptions<'_>,
     program: &mut P,
     steps: &mut S,
@@ -66,10 +69,10 @@ pub fn ask<P: Source, S: Source, W: Sink, G: Gate>(
     requires program { CanCountOneMore (P.device program.old) }
     requires steps { CanCountOneMore (S.device steps.old) }
     requires out { CanCountOneMore (W.device out.old) }
-    ensures { Serves (ask_command options.now) (used P.device program.old program.new) (used S.device steps.old steps.new) (used W.device out.old out.new) result }
+    ensures { Serves (ask_command (option_copied file.entry) options.now) (used P.device program.old program.new) (used S.device steps.old steps.new) (used W.device out.old out.new) result }
 {
     let sources = read_sources(alloc, true, program, steps)?;
-    let report = report_questions(alloc, options, &sources, gate)?;
+    let report = report_questions(alloc, file, options, &sources, gate)?;
     write_report(out, &report)
 }
 

@@ -73,7 +73,12 @@ pub fn asking_start(
     ensures start { Makes (asking_start options.now program.now steps.now) result }
     ensures ready { IfOk result (λ asking. IsReady asking.start.machine) }
 {
-    let Questioned { lined, questions } = read_questions(alloc, program)?;
+    let Questioned {
+        lined,
+        questions,
+        scope,
+    } = read_questions(alloc, program)?;
+    drop(scope);
     let questions = chosen(options.only, questions)?;
     let given = given_by(alloc, lined.lines, steps)?;
     let start = start_on(

@@ -13,11 +13,11 @@ use crate::listing::{Listing, examine};
 use crate::question::Question;
 use commands::{Fault, ImagesOptions, condition_in, machine_after, read_list};
 use isa::Object;
-use lines_layout::Layout;
 use machine::Step;
+use questions::Questioned;
 use std::alloc::Global;
 
-/// What is asked about the images, the conditions read by the names of a layout.
+/// What is asked about the images of a program.
 ///
 /// # Errors
 ///
@@ -25,13 +25,13 @@ use std::alloc::Global;
 #[tactic(auto, using(commands::proofs::WorksInTurn::turns))]
 fn question_of(
     alloc: Global,
-    layout: &Layout,
+    program: &Questioned,
     options: &ImagesOptions<'_>,
 ) -> Result<Question, Fault>
-    ensures { Makes (question_work layout.now options.now) result }
+    ensures { Makes (question_work program.now options.now) result }
 {
-    let all = condition_in(alloc, layout, options.all)?;
-    let some = condition_in(alloc, layout, options.some)?;
+    let all = condition_in(alloc, program, options.all)?;
+    let some = condition_in(alloc, program, options.some)?;
     Ok(Question {
         only_count: options.only_count,
         all,
@@ -90,13 +90,19 @@ fn images_told(
 pub fn find_images(
     alloc: Global,
     options: &ImagesOptions<'_>,
-    object: &Object,
+    program: &Questioned,
     steps: &[u8],
 ) -> Result<Answer<WithImage<Listing>>, Fault>
-    ensures found { Makes (images_found options.now object.now steps.now) result }
-    ensures exact { IsOk result → IsOfImagesOn options.now object.now steps.now }
+    ensures found { Makes (images_found options.now program.now steps.now) result }
+    ensures exact { IsOk result → IsOfImagesOn options.now program.now steps.now }
 {
-    let question = question_of(alloc, object.layout(), options)?;
+    let question = question_of(alloc, program, options)?;
     let steps = read_list(alloc, steps)?;
-    images_told(alloc, options.explains_image, object, &question, &steps)
+    images_told(
+        alloc,
+        options.explains_image,
+        &program.lined.object,
+        &question,
+        &steps,
+    )
 }

@@ -1,7 +1,8 @@
 //! The answer to a question of a program.
 ghost use Rattle.std.specs.Prelude.{◌≡◌};
 ghost use Rattle.jobs.specs.Questions.{is_good};
-ghost use Rattle.jobs.specs.QuestionReports.{answers_status, are_good};
+ghost use Rattle.std.specs.Prelude.{None, Some, MatchOption};
+ghost use Rattle.jobs.specs.QuestionReports.{answers_status, are_good, asked_count, first_bad, is_asked};
 
 use crate::explained::Explained;
 use commands::Status;
@@ -35,6 +36,13 @@ impl QuestionAnswer {
             QuestionAnswer::Fails(_) | QuestionAnswer::Nowhere | QuestionAnswer::OfNoState => false,
         }
     }
+
+    /// Whether its question is asked.
+    fn is_asked(&self) -> bool
+        ensures { result ≡ is_asked self.now }
+    {
+        !matches!(self, QuestionAnswer::NotAsked)
+    }
 }
 
 /// A question with its answer.
@@ -60,6 +68,25 @@ fn are_good(answers: &[Answered]) -> bool
     ensures { result ≡ are_good answers.now }
 {
     answers.iter().all(|one| one.answer.is_good())
+}
+
+/// How many questions are asked.
+pub(crate) fn asked_count(answers: &[Answered]) -> usize
+    ensures { result ≡ asked_count answers.now }
+{
+    answers.iter().filter(|one| one.answer.is_asked()).count()
+}
+
+/// The first answer that is not good.
+pub(crate) fn first_bad(answers: &[Answered]) -> Option<&Answered>
+    ensures { MatchOption result (first_bad answers.now ≡ None) (λ bad. first_bad answers.now ≡ Some bad.now) }
+{
+    for one in answers {
+        if !one.answer.is_good() {
+            return Some(one);
+        }
+    }
+    None
 }
 
 /// The status for answers: each is to be good, and there is to be one.

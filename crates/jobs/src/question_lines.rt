@@ -1,13 +1,15 @@
 //! The report of the questions of a program, in lines.
-ghost use Rattle.std.specs.Prelude.{◌≡◌, ◌++◌, ⊤, IfOk, OnOk, string_bytes};
+ghost use Rattle.std.specs.Prelude.{◌≡◌, ◌++◌, ⊤, IfOk, OnOk, option_copied, string_bytes};
 ghost use Rattle.std.specs.List.{flat_map};
 ghost use Rattle.commands.specs.OutcomeTexts.{named_texts};
-ghost use Rattle.jobs.specs.QuestionReports.{answer_text, answered_text, answers_text, behind_answer, bound_text, bound_texts, found_text, pointed_text, run_text, shows_runs};
+ghost use Rattle.jobs.specs.QuestionReports.{answer_text, answered_text, answers_text, behind_answer, bound_text, bound_texts, file_text, first_bad, found_text, judged_text, pointed_text, run_text, shows_runs, text_for};
 
 use crate::explained::Explained;
 use crate::failure::behind_failed;
 use crate::form::{Answer, Form};
-use crate::question_answer::{Answered, QuestionAnswer, QuestionsFound};
+use crate::question_answer::{
+    Answered, QuestionAnswer, QuestionsFound, asked_count, first_bad,
+};
 use crate::questions_asked::run_options;
 use crate::start::Start;
 use commands::{QuestionOptions, Report, behind, push_number, word_name};
@@ -196,9 +198,66 @@ fn answers_text(
     Ok(report)
 }
 
+/// Appends how many questions are asked, where all answers are good; else the first question whose answer is not, alone.
+fn push_judged(
+    report: &mut Vec<u8>,
+    options: &QuestionOptions<'_>,
+    start: &Start,
+    answers: &[Answered],
+) -> Result<(), AllocError>
+    ensures { OnOk result (report.new.items ≡ report.old.items ++ judged_text options.now start.now answers.now (first_bad answers.now)) }
+{
+    match first_bad(answers) {
+        Some(bad) => push_answered(report, options, start, bad),
+        None => {
+            let text = format!(in *report.allocator(); "{} hold\n", asked_count(answers))?;
+            report.extend_from_slice(text.as_bytes())
+        }
+    }
+}
+
+/// The report where the file is one of several: its name, and whether all answers are good; or that it asks nothing.
+fn file_text(
+    alloc: Global,
+    file: &str,
+    options: &QuestionOptions<'_>,
+    start: &Start,
+    answers: &[Answered],
+) -> Result<Vec<u8>, AllocError>
+    ensures { IfOk result (λ report. report.items ≡ file_text file.now options.now start.now answers.now) }
+{
+    let mut report = Vec::new(alloc);
+    report.extend_from_slice(file.as_bytes())?;
+    report.extend_from_slice(b": ")?;
+    if answers.is_empty() {
+        report.extend_from_slice(b"nothing asked\n")?;
+    } else {
+        push_judged(&mut report, options, start, answers)?;
+    }
+    Ok(report)
+}
+
+/// The report of answers: in short, where their file is one of several.
+fn text_for(
+    alloc: Global,
+    file: Option<&str>,
+    options: &QuestionOptions<'_>,
+    start: &Start,
+    answers: &[Answered],
+) -> Result<Vec<u8>, AllocError>
+    ensures { IfOk result (λ report. report.items ≡ text_for (option_copied file.entry) options.now start.now answers.now) }
+{
+    match file {
+        None => answers_text(alloc, options, start, answers),
+        Some(file) => file_text(alloc, file, options, start, answers),
+    }
+}
+
 /// Lines, as a person reads them.
 #[derive(Drop)]
 pub(crate) struct QuestionLines<'a> {
+    /// The name of the program's file, where it is one of several.
+    pub(crate) file: Option<&'a str>,
     /// How runs are shown.
     pub(crate) options: &'a QuestionOptions<'a>,
     /// What the questions are asked of.
@@ -206,14 +265,14 @@ pub(crate) struct QuestionLines<'a> {
 }
 
 impl<'a> Form<QuestionsFound> for QuestionLines<'a> {
-    ghost says = { λ form. found_text form.options.now form.start.now };
+    ghost says = { λ form. found_text (option_copied form.file) form.options.now form.start.now };
 
     ghost CanSay = { λ form found. ⊤ };
 
     fn report(&self, alloc: Global, answer: &Answer<QuestionsFound>) -> Result<Report, AllocError> {
         let answers = &answer.found.answers;
         Ok(Report {
-            text: answers_text(alloc, self.options, self.start, answers)?,
+            text: text_for(alloc, self.file, self.options, self.start, answers)?,
             status: answer.status,
         })
     }

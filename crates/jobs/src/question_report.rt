@@ -1,5 +1,5 @@
 //! The report of `check` where it asks the questions of a program.
-ghost use Rattle.std.specs.Prelude.{IfOk, Ok};
+ghost use Rattle.std.specs.Prelude.{IfOk, Ok, option_copied};
 ghost use Rattle.commands.specs.Serving.{MakesReport};
 ghost use Rattle.jobs.specs.Starts.{IsReady};
 ghost use Rattle.jobs.specs.QuestionReports.{ask_command, found_text, IsPrinted, IsReported};
@@ -38,16 +38,21 @@ pub fn print_found<F: Form<QuestionsFound>>(
 /// The report of these questions, asked of all runs from a start. The start then asks something else.
 fn answers_report<G: Gate>(
     alloc: Global,
+    file: Option<&str>,
     options: &QuestionOptions<'_>,
     start: &mut Start,
     questions: Vec<NamedQuestion>,
     gate: &G,
 ) -> Result<Report, Fault>
     requires { IsReady start.old.machine }
-    ensures { IsReported (found_text options.now) options.now (record { start = start.old; questions = questions.items }) result }
+    ensures { IsReported (found_text (option_copied file.entry) options.now) options.now (record { start = start.old; questions = questions.items }) result }
 {
     let found = find_answers(alloc, options, start, questions, gate);
-    let form = QuestionLines { options, start };
+    let form = QuestionLines {
+        file,
+        options,
+        start,
+    };
     print_found(alloc, &form, found)
 }
 
@@ -55,17 +60,18 @@ fn answers_report<G: Gate>(
 #[tactic(auto, unfolding(crate::specs::QuestionReports::ask_command))]
 pub(crate) fn report_questions<G: Gate>(
     alloc: Global,
+    file: Option<&str>,
     options: &QuestionOptions<'_>,
     sources: &Sources,
     gate: &G,
 ) -> Result<Report, Fault>
-    ensures { MakesReport (ask_command options.now) (Ok sources.now) result }
+    ensures { MakesReport (ask_command (option_copied file.entry) options.now) (Ok sources.now) result }
 {
     let Asking {
         mut start,
         questions,
     } = asking_start(alloc, options, &sources.program, &sources.steps)?;
-    let report = answers_report(alloc, options, &mut start, questions, gate);
+    let report = answers_report(alloc, file, options, &mut start, questions, gate);
     drop(start);
     report
 }

@@ -19,10 +19,11 @@ use crate::order::find_pair;
 use crate::replay::find_schedule;
 use crate::run::find_run;
 use crate::trace::report_trace;
-use commands::{Fault, Job, Report, Sources, Stage, Status, read_lined};
+use commands::{Fault, Job, Report, Sources, Stage, Status, read_questions};
 use isa::Object;
-use litmus_text::{TextLines, write_litmus};
+use litmus_text::write_litmus;
 use loader::write_object;
+use questions::Questioned;
 use std::alloc::Global;
 
 /// The bytes of a text.
@@ -70,7 +71,7 @@ fn report_dis(alloc: Global, object: &Object) -> Result<Report, Fault>
     }
 }
 
-/// The report of a command on a program that was read, and on the lines of its text.
+/// The report of a command on a program that was read.
 ///
 /// # Errors
 ///
@@ -78,16 +79,16 @@ fn report_dis(alloc: Global, object: &Object) -> Result<Report, Fault>
 pub fn report_on(
     alloc: Global,
     job: &Job<'_>,
-    object: &Object,
-    text_lines: &TextLines,
+    program: &Questioned,
     steps: &[u8],
 ) -> Result<Report, Fault>
-    ensures { MayMakeOn job.now object.now text_lines.now steps.now result }
+    ensures { MayMakeOn job.now program.now steps.now result }
 {
+    let object = &program.lined.object;
     let layout = object.layout();
     let lines = Lines {
         layout,
-        lines: text_lines,
+        lines: &program.lined.lines,
         names: false,
     };
     match job {
@@ -100,10 +101,10 @@ pub fn report_on(
         Job::Images(options) => {
             let lines = Lines {
                 layout,
-                lines: text_lines,
+                lines: &program.lined.lines,
                 names: options.names,
             };
-            let found = find_images(alloc, options, object, steps);
+            let found = find_images(alloc, options, program, steps);
             print(alloc, &lines, Stage::Images, found)
         }
         Job::Set(options) => {
@@ -132,8 +133,8 @@ pub(crate) fn command_report(
 ) -> Result<Report, Fault>
     ensures { MakesReport (command_of job.now) (Ok sources.now) result }
 {
-    let lined = read_lined(alloc, &sources.program)?;
-    let report = report_on(alloc, job, &lined.object, &lined.lines, &sources.steps);
-    drop(lined);
+    let program = read_questions(alloc, &sources.program)?;
+    let report = report_on(alloc, job, &program, &sources.steps);
+    drop(program);
     report
 }

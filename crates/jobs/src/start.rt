@@ -1,5 +1,6 @@
 //! What an exploration begins with.
 ghost use Rattle.std.specs.Prelude.{◌≡◌, IfOk};
+ghost use Rattle.std.specs.Result.{result_map_both};
 ghost use Rattle.commands.specs.Programs.{state_work};
 ghost use Rattle.commands.specs.Works.{Makes};
 ghost use Rattle.machine.specs.Objects.{opening};
@@ -9,13 +10,15 @@ ghost use Rattle.explore.specs.Sound.{IsSound};
 ghost use Rattle.jobs.specs.Starts.{check_asked, check_question, check_start, no_condition, outcomes_start, start_on, IsReady};
 
 use crate::given::{Given, given_by};
-use commands::{CheckOptions, Fault, OutcomesOptions, condition_in, machine_after, read_lined};
+use commands::{
+    CheckOptions, Fault, OutcomesOptions, condition_in, machine_after, read_lined, read_questions,
+};
 use explore::Question;
 use explore::laws::loaded_machines_are_sound;
 use isa::Object;
-use lines_layout::Layout;
-use litmus_text::{LinedObject, TextLines};
+use litmus_text::LinedObject;
 use machine::{Machine, Step};
+use questions::Questioned;
 use std::alloc::Global;
 
 /// A program, what is asked, what was given, and the machine of the program after the given steps: what runs start from.
@@ -35,14 +38,14 @@ pub struct Start {
 #[tactic(auto, using(commands::proofs::WorksInTurn::turns))]
 fn check_question(
     alloc: Global,
-    layout: &Layout,
+    program: &Questioned,
     options: &CheckOptions<'_>,
 ) -> Result<Question, Fault>
-    ensures { Makes (check_question options.now layout.now) result }
+    ensures { Makes (check_question options.now program.now) result }
 {
-    let all = condition_in(alloc, layout, options.all)?;
-    let ends = condition_in(alloc, layout, options.ends)?;
-    let recovered = condition_in(alloc, layout, options.recovered)?;
+    let all = condition_in(alloc, program, options.all)?;
+    let ends = condition_in(alloc, program, options.ends)?;
+    let recovered = condition_in(alloc, program, options.recovered)?;
     Ok(Question {
         crashes: !options.before_crash,
         all,
@@ -112,20 +115,28 @@ pub(crate) fn start_on(
     }
 }
 
-/// What `check` is asked, and what it is given.
+/// A program, what `check` is asked of it, and what it is given.
 #[tactic(auto, using(commands::proofs::WorksInTurn::turns))]
 fn check_asked(
     alloc: Global,
-    layout: &Layout,
+    program: Questioned,
     options: &CheckOptions<'_>,
-    lines: TextLines,
     steps: &[u8],
-) -> Result<(Question, Given), Fault>
-    ensures { Makes (check_asked options.now layout.now lines steps.now) result }
+) -> Result<(Object, Question, Given), Fault>
+    ensures asked { Makes (check_asked options.now program steps.now)
+        (result_map_both (λ asked. (asked.1, asked.2)) (λ fault. fault) result) }
+    ensures object { IfOk result (λ asked. asked.0 ≡ program.lined.object) }
 {
-    let question = check_question(alloc, layout, options)?;
+    let question = check_question(alloc, &program, options)?;
+    let Questioned {
+        lined,
+        questions,
+        scope,
+    } = program;
+    drop((questions, scope));
+    let LinedObject { object, lines } = lined;
     let given = given_by(alloc, lines, steps)?;
-    Ok((question, given))
+    Ok((object, question, given))
 }
 
 /// What `check` begins with.
@@ -143,14 +154,9 @@ pub fn check_start(
     ensures start { Makes (check_start options.now program.now steps.now) result }
     ensures ready { IfOk result (λ start. IsReady start.machine) }
 {
-    let LinedObject { object, lines } = read_lined(alloc, program)?;
-    match check_asked(alloc, object.layout(), options, lines, steps) {
-        Ok((question, given)) => start_on(alloc, object, question, given),
-        Err(fault) => {
-            drop(object);
-            Err(fault)
-        }
-    }
+    let program = read_questions(alloc, program)?;
+    let (object, question, given) = check_asked(alloc, program, options, steps)?;
+    start_on(alloc, object, question, given)
 }
 
 /// What `outcomes` begins with.

@@ -1,5 +1,5 @@
 -- The commands that make one report end the same as JSON and as text.
-use Rattle.std.proofs.Common.{◌≡◌, ℕ, Result, Ok, Err, List, ◌∷◌, ◌++◌, length, ap, refl, subst, sym}
+use Rattle.std.proofs.Common.{◌≡◌, ℕ, Option, Result, Ok, Err, List, ◌∷◌, ◌++◌, length, ap, refl, subst, sym}
 use Rattle.std.specs.Prelude.{Contains}
 use Rattle.isa.specs.Objects.{Object}
 use Rattle.machine.specs.declared.step.Step.{Step}
@@ -15,11 +15,13 @@ use Rattle.commands.specs.declared.jobs.TraceOptions.{TraceOptions}
 use Rattle.jobs.specs.declared.form.Answer.{Answer}
 use Rattle.jobs.specs.Forms.{answer_of, command_work, printed}
 use Rattle.commands.specs.StateTexts.{run_text}
-use Rattle.commands.specs.Programs.{lined_work, lines_in_file, list_of, list_work, program_of, program_stage, program_work, state_work}
+use Rattle.commands.specs.Programs.{lined_work, lines_in_file, list_of, list_work, program_of, program_stage, program_work, questioned_work, questions_in_file, scope_in_file, state_work}
 use Rattle.commands.specs.Serving.{Report}
 use Rattle.commands.specs.Works.{◌>>=◌, and_then, done, reached_after, told_after, Work, work}
 use Rattle.litmus_text.specs.TextLines.{TextLines}
 use Rattle.litmus_text.specs.declared.text_lines.LinedObject.{LinedObject}
+use Rattle.questions.specs.Questions.{NamedQuestion, Questioned}
+use Rattle.questions.specs.Scopes.{Scope}
 use Rattle.jobs.specs.Reports as texts
 use Rattle.json_jobs.specs.JsonReports as values
 use Rattle.json_jobs.specs.EndReports as end_values
@@ -89,32 +91,49 @@ ends_alike alike = record {
   as_json = λ stage. subst (λ (reached : List Stage). Contains reached stage) (sym alike.1);
 }
 
--- A program is read, and a work done on it; as JSON it is read with the lines of its text.
-module _ (stage : Stage) (lines : TextLines) (json : TextLines → Object → Work Report) (text : Object → Work Report)
-    (alike : (found : TextLines) (object : Object) → AreAlike (json found object) (text object)) where
+-- A program is read, and a work done on it; as JSON it is read with the lines of its text, its questions and its names.
+module _ (stage : Stage) (lines : TextLines) (questions : List NamedQuestion) (scope : Option Scope) (json : TextLines → Object → Work Report) where
+  abbrev lined_in : Result Object Refused → Work LinedObject
+  lined_in said = work stage said >>= λ (object : Object). done (record { object = object; lines = lines })
+
   abbrev as_json : Result Object Refused → Work Report
   as_json said =
-      (work stage said >>= λ (object : Object). done (record { object = object; lines = lines }))
-      >>= λ (lined : LinedObject). json lined.lines lined.object
+      (lined_in said >>= λ (lined : LinedObject). done (record { lined = lined; questions = questions; scope = scope }))
+      >>= λ (read : Questioned). json read.lined.lines read.lined.object
 
-  abbrev as_text : Result Object Refused → Work Report
-  as_text said = work stage said >>= text
+  module _ (text : Object → Work Report) (alike : (found : TextLines) (object : Object) → AreAlike (json found object) (text object)) where
+    abbrev as_text : Result Object Refused → Work Report
+    as_text said = work stage said >>= text
 
-  whole_alike : (said : Result Object Refused) → AreAlike (as_json said) (as_text said)
-  unfolding and_then done
-  whole_alike (Ok object) = let rests = alike lines object in (rests.0, ap (λ (later : List Stage). stage ∷ later) rests.1)
-  whole_alike (Err refused) = (refl, refl)
+    whole_alike : (said : Result Object Refused) → AreAlike (as_json said) (as_text said)
+    unfolding and_then done
+    whole_alike (Ok object) = let rests = alike lines object in (rests.0, ap (λ (later : List Stage). stage ∷ later) rests.1)
+    whole_alike (Err refused) = (refl, refl)
+
+  module _ (text : TextLines → Object → Work Report) (alike : (found : TextLines) (object : Object) → AreAlike (json found object) (text found object)) where
+    abbrev as_lined : Result Object Refused → Work Report
+    as_lined said = lined_in said >>= λ (lined : LinedObject). text lined.lines lined.object
+
+    both_alike : (said : Result Object Refused) → AreAlike (as_json said) (as_lined said)
+    unfolding and_then done
+    both_alike (Ok object) = let rests = alike lines object in (rests.0, ap (λ (later : List Stage). stage ∷ later) rests.1)
+    both_alike (Err refused) = (refl, refl)
 
 pub end_alike : (program : List ℕ) (json : TextLines → Object → Work Report) (text : Object → Work Report)
     → ((lines : TextLines) (object : Object) → AreAlike (json lines object) (text object))
-    → EndAlike (lined_work program >>= λ (lined : LinedObject). json lined.lines lined.object) (program_work program >>= text)
-end_alike program json text alike = ends_alike (whole_alike (program_stage program) (lines_in_file program) json text alike (program_of program))
+    → EndAlike (questioned_work program >>= λ (read : Questioned). json read.lined.lines read.lined.object) (program_work program >>= text)
+end_alike program json text alike =
+    ends_alike (whole_alike (program_stage program) (lines_in_file program) (questions_in_file program) (scope_in_file program) json text alike (program_of program))
 
 -- the same where both read the lines of the text
 pub lined_alike : (program : List ℕ) (json text : TextLines → Object → Work Report)
     → ((lines : TextLines) (object : Object) → AreAlike (json lines object) (text lines object))
-    → EndAlike (lined_work program >>= λ (lined : LinedObject). json lined.lines lined.object)
+    → EndAlike (questioned_work program >>= λ (read : Questioned). json read.lined.lines read.lined.object)
     (lined_work program >>= λ (lined : LinedObject). text lined.lines lined.object)
 lined_alike program json text alike =
-    ends_alike (then_alike (lined_work program) (λ (lined : LinedObject). json lined.lines lined.object)
-    (λ (lined : LinedObject). text lined.lines lined.object) (λ lined. alike lined.lines lined.object))
+    ends_alike (both_alike (program_stage program) (lines_in_file program) (questions_in_file program) (scope_in_file program) json text alike (program_of program))
+
+-- and where both read its names
+pub read_alike : (program : List ℕ) (json text : Questioned → Work Report) → ((read : Questioned) → AreAlike (json read) (text read))
+    → EndAlike (questioned_work program >>= json) (questioned_work program >>= text)
+read_alike program json text alike = ends_alike (then_alike (questioned_work program) json text alike)

@@ -14,6 +14,7 @@ use Rattle.commands.specs.Works.{Work}
 use Rattle.jobs.specs.ImageReports.{Listing}
 use Rattle.jobs.specs.ImagesTold.{ImageTold}
 use Rattle.jobs.specs.declared.image_told.WithImage.{WithImage}
+use Rattle.questions.specs.Questions.{Questioned}
 use Rattle.jobs.specs.Reports.{images_found, law_found, replay_found, set_found}
 use Rattle.json_texts.specs.Objects.{Field, Tree, header, num, nums, obj, or_null, report_text}
 use Rattle.json_texts.specs.ImageData.{all_data, candidates_data, images_data, names_data, some_data}
@@ -47,9 +48,9 @@ images_data_of source found =
     ++ (codes "explained", or_null (image_told_data source) found.told) ∷ listing_fields source.names found.found)
 
 -- images --json
-abbrev pub images_on : ImagesOptions → programs.Object → TextLines → List ℕ → Work Report
-images_on options object lines steps =
-    command_work (images_found options object steps) stages.Images (json_form (images_data_of (source_of object lines)))
+abbrev pub images_on : ImagesOptions → Questioned → List ℕ → Work Report
+images_on options program steps =
+    command_work (images_found options program steps) stages.Images (json_form (images_data_of (source_of program.lined.object program.lined.lines)))
 
 -- the places of the entries that leave an image, if there are such, and what is told of the image
 abbrev pub set_data : SourceMap → WithImage (Option (List ℕ)) → Tree

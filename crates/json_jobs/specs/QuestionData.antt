@@ -1,5 +1,5 @@
 -- The report of the questions of a program as JSON.
-use Rattle.std.specs.Prelude.{◌≡◌, ℕ, Bool, true, false, List, [], ◌∷◌, ◌++◌, codes, map}
+use Rattle.std.specs.Prelude.{◌≡◌, ℕ, Bool, true, false, Option, None, Some, List, [], ◌∷◌, ◌++◌, codes, map}
 use Rattle.std.specs.Str.Lossy.{utf8_lossy}
 use Rattle.questions.specs.declared.question.Place.{Place}
 use Rattle.questions.specs.declared.question.Place.TheVariants as places
@@ -79,17 +79,22 @@ is_done statuses.Refused = false
 abbrev pub all_answered : QuestionOptions → Start → List Answered → Tree
 all_answered options start answered = list (map (answered_data options start) answered)
 
+-- the name of the file, where it is one of several
+abbrev pub file_data : Option Text → List (Text × Tree)
+file_data None = []
+file_data (Some file) = (codes "file", word file) ∷ []
+
 -- what is found
-abbrev pub found_data : QuestionOptions → Start → QuestionsFound → Tree
-found_data options start found =
+abbrev pub found_data : Option Text → QuestionOptions → Start → QuestionsFound → Tree
+found_data file options start found =
     obj (header (codes "check")
-    ++ (codes "holds", boolean (is_done (answers_status found.answers.items))) ∷ (codes "words", names_data start.object.layout)
-    ∷ (codes "questions", all_answered options start found.answers.items) ∷ [])
+    ++ (file_data file ++ (codes "holds", boolean (is_done (answers_status found.answers.items))) ∷ (codes "words", names_data start.object.layout)
+    ∷ (codes "questions", all_answered options start found.answers.items) ∷ []))
 
 -- its text
-abbrev pub found_json : QuestionOptions → Start → QuestionsFound → Text
-found_json options start found = report_text (found_data options start found)
+abbrev pub found_json : Option Text → QuestionOptions → Start → QuestionsFound → Text
+found_json file options start found = report_text (found_data file options start found)
 
--- `check --json` that asks the questions of a program
-unfoldable pub ask_command : QuestionOptions → Command
-ask_command options = asking_command found_json options
+-- `check --json` that asks the questions of a program, whose file has a name, where it is one of several
+unfoldable pub ask_command : Option Text → QuestionOptions → Command
+ask_command file options = asking_command (found_json file) options

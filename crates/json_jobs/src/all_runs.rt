@@ -1,5 +1,5 @@
 //! The commands that explore every run, where their report is asked for as JSON.
-ghost use Rattle.std.specs.Prelude.{Ok};
+ghost use Rattle.std.specs.Prelude.{Ok, option_copied};
 ghost use Rattle.commands.specs.Devices.{CanCountOneMore};
 ghost use Rattle.commands.specs.Serving.{MakesReport, Serves, used};
 ghost use Rattle.json_jobs.specs.QuestionData.{ask_command};
@@ -63,6 +63,7 @@ pub fn check<P: Source, S: Source, W: Sink, G: Gate>(
 #[tactic(auto, using(commands::proofs::ServedCommands::served), unfolding(crate::specs::QuestionData::ask_command))]
 pub fn ask<P: Source, S: Source, W: Sink, G: Gate>(
     alloc: Global,
+    file: Option<&str>,
     options: &QuestionOptions<'_>,
     program: &mut P,
     steps: &mut S,
@@ -72,10 +73,10 @@ pub fn ask<P: Source, S: Source, W: Sink, G: Gate>(
     requires program { CanCountOneMore (P.device program.old) }
     requires steps { CanCountOneMore (S.device steps.old) }
     requires out { CanCountOneMore (W.device out.old) }
-    ensures { Serves (ask_command options.now) (used P.device program.old program.new) (used S.device steps.old steps.new) (used W.device out.old out.new) result }
+    ensures { Serves (ask_command (option_copied file.entry) options.now) (used P.device program.old program.new) (used S.device steps.old steps.new) (used W.device out.old out.new) result }
 {
     let sources = read_sources(alloc, true, program, steps)?;
-    let report = report_questions(alloc, options, &sources, gate)?;
+    let report = report_questions(alloc, file, options, &sources, gate)?;
     write_report(out, &report)
 }
 

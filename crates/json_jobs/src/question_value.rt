@@ -1,5 +1,5 @@
 //! The report of the questions of a program as JSON.
-ghost use Rattle.std.specs.Prelude.{◌≡◌, ⊤, IfOk, Ok};
+ghost use Rattle.std.specs.Prelude.{◌≡◌, ⊤, IfOk, Ok, option_copied};
 ghost use Rattle.commands.specs.Serving.{MakesReport};
 ghost use Rattle.jobs.specs.QuestionReports.{IsReported};
 ghost use Rattle.jobs.specs.Starts.{IsReady};
@@ -158,24 +158,33 @@ fn is_done(status: Status) -> bool
 /// What is found.
 fn found_value(
     alloc: Global,
+    file: Option<&str>,
     options: &QuestionOptions<'_>,
     start: &Start,
     found: &QuestionsFound,
 ) -> Result<Value, AllocError>
-    ensures { IfOk result (IsJsonOf (found_data options.now start.now found.now)) }
+    ensures { IfOk result (IsJsonOf (found_data (option_copied file.entry) options.now start.now found.now)) }
 {
     let holds = is_done(answers_status(&found.answers));
     let words = names_value(alloc, start.object.layout())?;
     let questions = all_answered(alloc, options, start, &found.answers)?;
-    json!(in alloc; {
-        "format": FORMAT, "command": "check", "holds": holds, "words": words,
-        "questions": questions
-    })
+    match file {
+        None => json!(in alloc; {
+            "format": FORMAT, "command": "check", "holds": holds, "words": words,
+            "questions": questions
+        }),
+        Some(file) => json!(in alloc; {
+            "format": FORMAT, "command": "check", "file": file, "holds": holds, "words": words,
+            "questions": questions
+        }),
+    }
 }
 
 /// JSON, as a program reads it.
 #[derive(Drop)]
 struct QuestionJson<'a> {
+    /// The name of the program's file, where it is one of several.
+    file: Option<&'a str>,
     /// How runs are explained.
     options: &'a QuestionOptions<'a>,
     /// What the questions are asked of.
@@ -183,12 +192,12 @@ struct QuestionJson<'a> {
 }
 
 impl<'a> Form<QuestionsFound> for QuestionJson<'a> {
-    ghost says = { λ form. found_json form.options.now form.start.now };
+    ghost says = { λ form. found_json (option_copied form.file) form.options.now form.start.now };
 
     ghost CanSay = { λ form found. ⊤ };
 
     fn report(&self, alloc: Global, answer: &Answer<QuestionsFound>) -> Result<Report, AllocError> {
-        let value = found_value(alloc, self.options, self.start, &answer.found)?;
+        let value = found_value(alloc, self.file, self.options, self.start, &answer.found)?;
         value_report(alloc, &value, answer.status)
     }
 }
@@ -196,16 +205,21 @@ impl<'a> Form<QuestionsFound> for QuestionJson<'a> {
 /// The report of these questions, asked of all runs from a start. The start then asks something else.
 fn answers_report<G: Gate>(
     alloc: Global,
+    file: Option<&str>,
     options: &QuestionOptions<'_>,
     start: &mut Start,
     questions: Vec<NamedQuestion>,
     gate: &G,
 ) -> Result<Report, Fault>
     requires { IsReady start.old.machine }
-    ensures { IsReported (found_json options.now) options.now (record { start = start.old; questions = questions.items }) result }
+    ensures { IsReported (found_json (option_copied file.entry) options.now) options.now (record { start = start.old; questions = questions.items }) result }
 {
     let found = find_answers(alloc, options, start, questions, gate);
-    let form = QuestionJson { options, start };
+    let form = QuestionJson {
+        file,
+        options,
+        start,
+    };
     print_found(alloc, &form, found)
 }
 
@@ -213,17 +227,18 @@ fn answers_report<G: Gate>(
 #[tactic(auto, unfolding(crate::specs::QuestionData::ask_command))]
 pub(crate) fn report_questions<G: Gate>(
     alloc: Global,
+    file: Option<&str>,
     options: &QuestionOptions<'_>,
     sources: &Sources,
     gate: &G,
 ) -> Result<Report, Fault>
-    ensures { MakesReport (ask_command options.now) (Ok sources.now) result }
+    ensures { MakesReport (ask_command (option_copied file.entry) options.now) (Ok sources.now) result }
 {
     let Asking {
         mut start,
         questions,
     } = asking_start(alloc, options, &sources.program, &sources.steps)?;
-    let report = answers_report(alloc, options, &mut start, questions, gate);
+    let report = answers_report(alloc, file, options, &mut start, questions, gate);
     drop(start);
     report
 }

@@ -8,24 +8,24 @@ use crate::json::Json;
 use crate::next_report::report_next;
 use crate::run_report::report_run;
 use crate::trace_report::report_trace;
-use commands::{Fault, Job, Report, Sources, Stage, read_lined};
-use isa::Object;
+use commands::{Fault, Job, Report, Sources, Stage, read_questions};
 use jobs::{find_images, find_pair, find_schedule, find_set, print, report_on};
 use json_texts::SourceMap;
-use litmus_text::TextLines;
+use questions::Questioned;
 use std::alloc::Global;
 
-/// The report of a command as JSON, on a program that was read and the lines of its text; of one that has none, its report.
+/// The report of a command as JSON, on a program that was read; of one that has none, its report.
 fn json_on(
     alloc: Global,
     job: &Job<'_>,
-    object: &Object,
-    lines: &TextLines,
+    program: &Questioned,
     steps: &[u8],
 ) -> Result<Report, Fault>
-    ensures report { Makes (json_on job.now object.now lines.now steps.now) result }
-    ensures exact { IsOk result → IsExact job.now object.now steps.now }
+    ensures report { Makes (json_on job.now program.now steps.now) result }
+    ensures exact { IsOk result → IsExact job.now program.now steps.now }
 {
+    let object = &program.lined.object;
+    let lines = &program.lined.lines;
     let json = Json {
         source: SourceMap {
             layout: object.layout(),
@@ -35,7 +35,7 @@ fn json_on(
     match job {
         Job::Run => report_run(alloc, object, lines, steps),
         Job::Images(options) => {
-            let found = find_images(alloc, options, object, steps);
+            let found = find_images(alloc, options, program, steps);
             print(alloc, &json, Stage::Images, found)
         }
         Job::Set(options) => {
@@ -52,8 +52,8 @@ fn json_on(
             let found = find_schedule(alloc, options, object, steps);
             print(alloc, &json, Stage::Machine, found)
         }
-        Job::Asm => report_on(alloc, job, object, lines, steps),
-        Job::Dis => report_on(alloc, job, object, lines, steps),
+        Job::Asm => report_on(alloc, job, program, steps),
+        Job::Dis => report_on(alloc, job, program, steps),
     }
 }
 
@@ -62,8 +62,8 @@ fn json_on(
 pub(crate) fn json_report(alloc: Global, job: &Job<'_>, sources: &Sources) -> Result<Report, Fault>
     ensures { MakesReport (json_command_of job.now) (Ok sources.now) result }
 {
-    let lined = read_lined(alloc, &sources.program)?;
-    let report = json_on(alloc, job, &lined.object, &lined.lines, &sources.steps);
-    drop(lined);
+    let program = read_questions(alloc, &sources.program)?;
+    let report = json_on(alloc, job, &program, &sources.steps);
+    drop(program);
     report
 }

@@ -19,7 +19,8 @@ pub use fault_places::fault_place;
 pub use forms::commands_begun;
 pub use misfits::{Misfit, program_misfit, script_misfit, step_misfit};
 pub use places::{
-    Place, before_comment, condition_or_end, line, stop_condition_or_end, token_or_end,
+    Place, before_comment, condition_or_end, line, statement_or_end, stop_condition_or_end,
+    token_or_end,
 };
 pub use slots::Slot;
 pub use stages::{Stage, stage_before};

@@ -119,6 +119,15 @@ pub fn condition_or_end(text: &[u8], index: usize) -> Place
     place_or_end(b"()", b"", text, index)
 }
 
+/// The place of the token of this index of a condition that is written as in an item of a sheet. Where there is none, it is right
+/// after the token before it, or at the end where that one is missing too.
+pub fn statement_or_end(text: &[u8], index: usize) -> Place
+    ensures within { IsWithin text.now result }
+    ensures token { IsPlaceOf (codes ",[]:()") (codes "#") text.now index result }
+{
+    place_or_end(b",[]:()", b"#", text, index)
+}
+
 /// The place of a piece of a line of this index, where blanks alone separate the pieces. Where there is none, it is
 /// right after the piece before it, or at the end where that one is missing too.
 pub(crate) fn piece_or_end(line: &[u8], index: usize) -> Place

@@ -1,7 +1,6 @@
 -- What `fences` and `mend` begin with: a program, and what is asked of all its runs.
 use Rattle.std.specs.Prelude.{ℕ, Bool, false, not, Option, None, Some, option_copied, List}
 use Rattle.outcomes.specs.Outcomes.{refuse}
-use Rattle.lines_layout.specs.Layouts.{NamedLines}
 use Rattle.isa.specs.Objects.{Object}
 use Rattle.image_reasons.specs.declared.entries.Site.{Site}
 use Rattle.explore.specs.declared.question.Question.{Question}
@@ -10,24 +9,25 @@ use Rattle.commands.specs.declared.asked_site.AskedSite.{AskedSite}
 use Rattle.commands.specs.declared.fault.Refused.TheVariants.{NoFence}
 use Rattle.commands.specs.declared.jobs.AskedRuns.{AskedRuns}
 use Rattle.commands.specs.declared.jobs.FencesOptions.{FencesOptions}
-use Rattle.commands.specs.Programs.{asked_condition, lined_work}
+use Rattle.commands.specs.Programs.{asked_condition, questioned_work}
 use Rattle.commands.specs.Works.{◌>>=◌, Work, done, test}
+use Rattle.questions.specs.Questions.{Questioned}
 use Rattle.mend_jobs.specs.declared.asked_program.AskedProgram.{AskedProgram}
 
 -- the conditions, read in their order; runs crash, unless those that do not crash alone are asked about
-abbrev pub asked_question : AskedRuns → NamedLines → Work Question
-asked_question asked names = do
-  all ← asked_condition names (option_copied asked.all)
-  ends ← asked_condition names (option_copied asked.ends)
-  recovered ← asked_condition names (option_copied asked.recovered)
+abbrev pub asked_question : AskedRuns → Questioned → Work Question
+asked_question asked program = do
+  all ← asked_condition program (option_copied asked.all)
+  ends ← asked_condition program (option_copied asked.ends)
+  recovered ← asked_condition program (option_copied asked.recovered)
   done (record { crashes = not asked.before_crash; all = all; ends = ends; recovered = recovered; images = false })
 
 -- the program that bytes say, and what is asked of it
 abbrev pub asked_program : AskedRuns → List ℕ → Work AskedProgram
 asked_program asked program = do
-  lined ← lined_work program
-  question ← asked_question asked lined.object.layout
-  done (record { object = lined.object; lines = lined.lines; question = question })
+  read ← questioned_work program
+  question ← asked_question asked read
+  done (record { object = read.lined.object; lines = read.lined.lines; question = question })
 
 -- the site that the command line names
 abbrev pub site_asked : AskedSite → Site

@@ -3,13 +3,13 @@ ghost use Rattle.std.specs.Prelude.{◌≡◌, option_map};
 ghost use Rattle.commands.specs.Works.{Makes};
 ghost use Rattle.mend_jobs.specs.Beginnings.{asked_program, asked_question, fence_work, fences_start, lacks_fence, site_asked};
 
-use commands::{AskedRuns, AskedSite, Fault, FencesOptions, Refused, condition_in, read_lined};
+use commands::{AskedRuns, AskedSite, Fault, FencesOptions, Refused, condition_in, read_questions};
 use explore::Question;
 use fence_needs::{instr_at, is_fence};
 use image_reasons::Site;
 use isa::Object;
-use lines_layout::Layout;
 use litmus_text::{LinedObject, TextLines};
+use questions::Questioned;
 use std::alloc::Global;
 
 /// A program, and what is asked of all its runs from its first state.
@@ -23,14 +23,18 @@ pub struct AskedProgram {
     pub question: Question,
 }
 
-/// What is asked, by the names of a layout.
+/// What is asked of a program.
 #[tactic(auto, using(commands::proofs::WorksInTurn::turns))]
-fn asked_question(alloc: Global, layout: &Layout, asked: &AskedRuns<'_>) -> Result<Question, Fault>
-    ensures { Makes (asked_question asked.now layout.now) result }
+fn asked_question(
+    alloc: Global,
+    program: &Questioned,
+    asked: &AskedRuns<'_>,
+) -> Result<Question, Fault>
+    ensures { Makes (asked_question asked.now program.now) result }
 {
-    let all = condition_in(alloc, layout, asked.all)?;
-    let ends = condition_in(alloc, layout, asked.ends)?;
-    let recovered = condition_in(alloc, layout, asked.recovered)?;
+    let all = condition_in(alloc, program, asked.all)?;
+    let ends = condition_in(alloc, program, asked.ends)?;
+    let recovered = condition_in(alloc, program, asked.recovered)?;
     Ok(Question {
         crashes: !asked.before_crash,
         all,
@@ -49,15 +53,24 @@ pub(crate) fn asked_program(
 ) -> Result<AskedProgram, Fault>
     ensures { Makes (asked_program asked.now program.now) result }
 {
-    let LinedObject { object, lines } = read_lined(alloc, program)?;
-    match asked_question(alloc, object.layout(), asked) {
-        Ok(question) => Ok(AskedProgram {
-            object,
-            lines,
-            question,
-        }),
+    let program = read_questions(alloc, program)?;
+    match asked_question(alloc, &program, asked) {
+        Ok(question) => {
+            let Questioned {
+                lined,
+                questions,
+                scope,
+            } = program;
+            drop((questions, scope));
+            let LinedObject { object, lines } = lined;
+            Ok(AskedProgram {
+                object,
+                lines,
+                question,
+            })
+        }
         Err(fault) => {
-            drop((object, lines));
+            drop(program);
             Err(fault)
         }
     }

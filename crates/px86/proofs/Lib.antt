@@ -4,5 +4,6 @@ pub mod Parse
 mod Numbers
 mod Questions
 mod Requests
+mod EachFile
 mod WentOn
 mod CheckSteps

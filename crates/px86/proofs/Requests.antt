@@ -1,13 +1,18 @@
 -- What a caller reads of the matches, as rows.
-use Rattle.std.proofs.Common.{◌≡◌, ◌∙◌, ℕ, refl, sym, ap, Bool, true, false, List, [], ◌∷◌, map, Option, Some, None, rules, codes, inl, inr, subst, true≢false}
+use Rattle.std.proofs.Common.{◌≡◌, ◌∙◌, ℕ, arith, refl, sym, ap, Bool, true, false, List, [], ◌∷◌, map, Option, Some, None, rules, codes, inl, inr, subst, true≢false}
 use Rattle.std.proofs.lemmas.Bool.{cases_Bool, false_from_ne_true}
 use Rattle.std.proofs.lemmas.Slice.Eq.{bytes_eq-Decides}
-use Rattle.std.specs.Prelude.{◌&&◌, not, find, option_map, option_and_then, option_copied, IfSome, slice_get, unwrap_or, Box}
+use Rattle.std.specs.Prelude.{Contains, ◌&&◌, not, find, option_map, option_and_then, option_copied, IfSome, slice_get, unwrap_or, Box}
 use Rattle.std.specs.Borrow.{Bor}
+use Rattle.std.specs.Prelude.{IfOk, Result, Ok, Err}
+use Rattle.std.specs.Global.{Vec}
+use Rattle.std.specs.declared.alloc.AllocError.{AllocError}
 use Rattle.std.specs.Box.{box_value}
 use Rattle.std.specs.Str.{bytes_eq}
 use Rattle.std.specs.Str.Parse.{ParsesBool}
-use Rattle.clap.specs.Words.{Row, Text, first_of, first_value, one_of, one_text, rows_of}
+use Rattle.clap.specs.Words.{Row, Text, all_of, first_of, first_value, one_of, one_text, rows_of}
+use Rattle.clap.specs.Matches.{matched_of, raw_values}
+use Rattle.clap.proofs.WalkLemmas.{raw_values-rows}
 use Rattle.clap.specs.Simple.{subcommand_rows, subcommand_rows_of}
 use Rattle.clap.specs.Facts.{Entry}
 use Rattle.clap.specs.Matches.{subcommand_name_of, ReadsOne}
@@ -21,7 +26,7 @@ use Rattle.clap.specs.declared.parser.matches.Found.{Found}
 use Rattle.commands.specs.declared.jobs.Job.{Job}
 use Rattle.commands.specs.declared.jobs.Job.TheVariants as jobs
 use Rattle.px86.specs.Commands.{command_named}
-use Rattle.px86.specs.CommandLines.{asks_of_all, form_of, is_given, is_yes, lacks_image, Asks, AsksIn, Finds, HasFormIn, HasMovesIn, HasProgressIn, IsImagesJob, IsNumber, IsNumberIfAny, IsNumberOr}
+use Rattle.px86.specs.CommandLines.{asks_of_all, entered_files, files_in, form_of, is_given, is_yes, lacks_image, Asks, AsksIn, Finds, HasFormIn, HasMovesIn, HasProgressIn, IsImagesJob, IsNumber, IsNumberIfAny, IsNumberOr}
 use Rattle.px86.specs.declared.command.Command.{Command}
 use Rattle.px86.specs.declared.request.Request.{Request}
 
@@ -78,6 +83,63 @@ one_entry id (e ∷ es) = elim (cases_Bool (bytes_eq e.0.now id)) [
 pub option_is : (found : Found) (id : Text) (value : Option (Bor Text)) → option_map (λ s. s.now) value ≡ first_value found id → first_of id (rows_of found) ≡ option_copied value
 option_is found id None is = sym (is ∙ first_text id found.entries.items)
 option_is found id (Some v) is = sym (is ∙ first_text id found.entries.items)
+
+-- `get_strs` of FILE, of the rows
+pub files_are : (found : Found) (files : Option (Bor (List (Bor Text)))) → option_map (λ s. map (λ v. v.now) s.now) files ≡ option_map raw_values (matched_of found (codes "FILE"))
+    → option_map (λ s. map (λ v. v.now) s.now) files ≡ all_of (codes "FILE") (rows_of found)
+files_are found files is = is ∙ raw_values-rows found (codes "FILE")
+
+-- those that are given, and where none is
+pub files_some : (found : Found) (files : Option (Bor (List (Bor Text)))) (given : Bor (List (Bor Text)))
+    → option_map (λ s. map (λ v. v.now) s.now) files ≡ option_map raw_values (matched_of found (codes "FILE")) → files ≡ Some given
+    → map (λ v. v.now) given.now ≡ files_in (rows_of found)
+files_some found files given is some =
+    let all : Some (map (λ v. v.now) given.now) ≡ all_of (codes "FILE") (rows_of found) = rw some at (files_are found files is) in
+    ap (λ (all : Option (List Text)). unwrap_or all []) all
+
+pub files_none : (found : Found) (files : Option (Bor (List (Bor Text)))) → option_map (λ s. map (λ v. v.now) s.now) files ≡ option_map raw_values (matched_of found (codes "FILE"))
+    → files ≡ None → [] ≡ files_in (rows_of found)
+files_none found files is none =
+    let all : None ≡ all_of (codes "FILE") (rows_of found) = rw none at (files_are found files is) in
+    ap (λ (all : Option (List Text)). unwrap_or all []) all
+
+-- a copy of them
+pub copied_files : (made : Result (Vec (Bor Text)) AllocError) (given : List (Bor Text)) (files : List Text)
+    → IfOk made (λ v. ((x y : Bor Text) → y ≡ x → y ≡ x) → v.items ≡ given) → map (λ v. v.now) given ≡ files → IfOk made (λ v. map (λ v. v.now) v.items ≡ files)
+copied_files (Ok v) given files same is = ap (map (λ v. v.now)) (same (λ x y e. e)) ∙ is
+copied_files (Err error) given files same is = tt
+
+-- the first of them
+first_in : (file : Text) (files : List Text) → slice_get files 0 ≡ Some file → Contains files file
+first_in file [] is = absurd cc
+first_in file (f ∷ files) is = (0, omega arith, cc)
+
+first_by : (file : Text) (row : Option Row) → option_and_then (λ (r : Row). slice_get r.values 0) row ≡ Some file → Contains (unwrap_or (option_map (λ (r : Row). r.values) row) []) file
+first_by file None is = absurd cc
+first_by file (Some row) is = first_in file row.values is
+
+pub first_given : (rows : List Row) (file : Text) → first_of (codes "FILE") rows ≡ Some file → Contains (files_in rows) file
+first_given rows file is = first_by file (find (λ r. bytes_eq r.id (codes "FILE")) rows) is
+
+none_in : (files : List Text) (file : Text) → slice_get files 0 ≡ None → Contains files file → ⊥
+none_in [] file is there = let (k, inside, same) = there in absurd (omega (arith, inside))
+none_in (f ∷ files) file is there = absurd cc
+
+none_by : (row : Option Row) (file : Text) → option_and_then (λ (r : Row). slice_get r.values 0) row ≡ None → Contains (unwrap_or (option_map (λ (r : Row). r.values) row) []) file → ⊥
+none_by None file is there = let (k, inside, same) = there in absurd (omega (arith, inside))
+none_by (Some row) file is there = none_in row.values file is there
+
+pub none_given : (rows : List Row) (file : Text) → first_of (codes "FILE") rows ≡ None → Contains (files_in rows) file → ⊥
+none_given rows file is there = none_by (find (λ r. bytes_eq r.id (codes "FILE")) rows) file is there
+
+-- the files of what was entered
+pub entered_some : (entered : Option (Text × List Row)) (rows : List Row) → Some rows ≡ option_map (λ p. p.1) entered → files_in rows ≡ entered_files entered
+entered_some None rows is = absurd cc
+entered_some (Some p) rows is = let same : rows ≡ p.1 = cc in ap files_in same
+
+pub entered_none : (entered : Option (Text × List Row)) → None ≡ option_map (λ p. p.1) entered → [] ≡ entered_files entered
+entered_none None is = refl
+entered_none (Some p) is = absurd cc
 
 -- what is so, and what is not
 pub may_be : (asks beyond : Bool) → (asks && not beyond) ≡ true → (asks ≡ true) × (beyond ≡ false)

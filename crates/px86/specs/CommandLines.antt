@@ -1,9 +1,9 @@
 -- What the words of a command line ask for, and how the program ends where they ask for no command.
-use Rattle.std.specs.Prelude.{◌≡◌, ◌≢◌, ◌⊎◌, ◌<◌, ◌*◌, ◌^◌, ◌++◌, ⊤, ℕ, Bool, true, false, not, ◌||◌, ◌&&◌, if◌then◌else◌, List, [], Option, None, Some, option_copied, codes, is_some, nat_lt}
+use Rattle.std.specs.Prelude.{◌≡◌, ◌≢◌, ◌⊎◌, ◌<◌, ◌*◌, ◌^◌, ◌++◌, ⊤, ℕ, Bool, true, false, not, ◌||◌, ◌&&◌, if◌then◌else◌, List, [], Contains, length, Option, None, Some, option_copied, unwrap_or, codes, is_some, nat_lt}
 use Rattle.std.specs.List.{list_any}
 use Rattle.std.specs.Str.{bytes_eq}
 use Rattle.std.specs.Str.Parse.{IsNumeral, digits_value}
-use Rattle.clap.specs.Words.{HasKind, Row, Text, first_of, one_of, kind_of, fault_of, subcommand_of}
+use Rattle.clap.specs.Words.{HasKind, Row, Text, all_of, first_of, one_of, kind_of, fault_of, subcommand_of}
 use Rattle.clap.specs.declared.error.Error.{Error}
 use Rattle.clap.specs.declared.error.kind.ErrorKind.{ErrorKind}
 use Rattle.clap.specs.declared.error.kind.ErrorKind.TheVariants.{DisplayHelp, DisplayVersion, OutOfMemory}
@@ -242,10 +242,23 @@ lacks_condition rows = is_given (codes "explain-image") rows && not (has_conditi
 abbrev pub asks_beyond : List Row → Bool
 asks_beyond rows = lacks_recovery rows || (lacks_condition rows || has_value (codes "only") rows)
 
+-- the files that it found, in their order
+abbrev pub files_in : List Row → List Text
+files_in rows = unwrap_or (all_of (codes "FILE") rows) []
+
+-- whether files are several
+abbrev pub are_several : List Text → Bool
+are_several files = nat_lt 1 (length files)
+
+-- whether it found several
+abbrev pub has_several : List Row → Bool
+has_several rows = are_several (files_in rows)
+
 -- The options of `check` that a parse found: something is asked, and no more than can be told.
 pub record AreCheckOptions (rows : List Row) (options : CheckOptions) : Type 0 where
   pub asks : has_question rows ≡ true
   pub within : asks_beyond rows ≡ false
+  pub single : has_several rows ≡ false
   pub all : first_of (codes "all") rows ≡ option_copied options.all
   pub ends : first_of (codes "ends") rows ≡ option_copied options.ends
   pub recovered : first_of (codes "recovered") rows ≡ option_copied options.recovered
@@ -384,21 +397,31 @@ IsInputOf reads.Asked rows input = IsCheckInput (has_question rows) (first_of (c
 IsInputOf reads.Script rows input =
     IsScript (is_given (codes "interactive") rows) (first_of (codes "steps") rows) (is_given (codes "no-steps") rows) input
 
--- A parse of a command, if it is one, found that it asks for this task on this file, with this input.
+-- A parse of a command, if it is one, found that it asks for this task on this file, which is one of those that it found, with this
+-- input.
 abbrev pub Asks : Option Command → List Row → Task → Text → Input → Type 0
 Asks None rows task file input = ⊥
 Asks (Some command) rows task file input =
-    IsTaskOf command rows task × (first_of (codes "FILE") rows ≡ Some file) × IsInputOf (row_of command).reads rows input
+    IsTaskOf command rows task × Contains (files_in rows) file × IsInputOf (row_of command).reads rows input
 
--- A parse entered the command of this task, with this text for FILE, and with this input.
+-- A parse entered the command of this task, with this text among those for FILE, and with this input.
 abbrev pub AsksIn : Option (Text × List Row) → Task → Text → Input → Type 0
 AsksIn None task file input = ⊥
 AsksIn (Some entered) task file input = Asks (command_named entered.0) entered.1 task file input
 
--- The words, of which the first is the program's name, ask for this command on this file, with steps or a script from
--- this input.
+-- The words, of which the first is the program's name, ask for this command on this file, which is one of those that they name, with
+-- steps or a script from this input.
 abbrev pub AsksFor : List Text → Task → Text → Input → Type 0
 AsksFor words task file input = AsksIn (subcommand_of command_line words) task file input
+
+-- the files that a parse found of the command that it entered
+abbrev pub entered_files : Option (Text × List Row) → List Text
+entered_files None = []
+entered_files (Some entered) = files_in entered.1
+
+-- The words name these files, in this order.
+abbrev pub HasFiles : List Text → List Text → Type 0
+HasFiles words files = files ≡ entered_files (subcommand_of command_line words)
 
 -- Whether a parse entered a command with `--moves`.
 abbrev pub HasMovesIn : Option (Text × List Row) → Bool → Type 0

@@ -4,7 +4,8 @@ use Rattle.std.specs.Prelude.{true, List, [], ◌∷◌, ◌++◌, Option, Some,
 use Rattle.std.specs.List.{fold}
 use Rattle.std.specs.Str.{bytes_eq}
 use Rattle.clap.specs.Words.{App, Rule, Text, new_app, new_rule, with_rule, with_subcommand}
-use Rattle.clap.specs.declared.builder.action.ArgAction.TheVariants.{Set, SetTrue}
+use Rattle.clap.specs.declared.builder.action.ArgAction.TheVariants.{Append, Set, SetTrue}
+use Rattle.clap.specs.Lexer.{usize_max}
 use Rattle.px86.specs.declared.command.Command.{Command}
 use Rattle.px86.specs.declared.command.Command.TheVariants.{Asm, Dis, Run, Trace, Next, Law, Debug, Images, Replay, Check, Outcomes, Tally, Hunt, Fences, Mend, Live}
 use Rattle.px86.specs.declared.command.CommandOption.{CommandOption}
@@ -18,9 +19,20 @@ use Rattle.px86.specs.declared.command.Takes.TheVariants as takes
 abbrev pub all_commands : List Command
 all_commands = Asm ∷ Dis ∷ Run ∷ Trace ∷ Next ∷ Law ∷ Debug ∷ Images ∷ Replay ∷ Check ∷ Outcomes ∷ Tally ∷ Hunt ∷ Fences ∷ Mend ∷ Live ∷ []
 
--- the argument FILE
-abbrev pub file_argument : Rule
-file_argument = record (new_rule (codes "FILE")) { required = true; action = Some Set }
+-- the argument FILE, which has to be given
+abbrev pub one_file : Rule
+one_file = record (new_rule (codes "FILE")) { required = true; action = Some Set }
+
+-- the same, where several files may be given
+abbrev pub some_files : Rule
+some_files = record one_file { action = Some Append; range = Some (record { start_inclusive = 1; end_inclusive = usize_max }) }
+
+-- the argument of a command: one that asks the questions of programs takes several
+abbrev pub file_argument : Reads → Rule
+file_argument reads.Nothing = one_file
+file_argument reads.Steps = one_file
+file_argument reads.Asked = some_files
+file_argument reads.Script = one_file
 
 -- a flag of this name
 abbrev pub flag : Text → Rule
@@ -119,7 +131,7 @@ with_rules app rules = fold with_rule app rules
 -- a command of this row: it takes FILE, `--explain`, what its steps come from, and its options
 abbrev pub app_of_row : Row → App
 app_of_row row =
-    with_rules (with_rules (with_rule (with_rule (new_app row.name) file_argument) (flag (codes "explain"))) (input_options row.reads)) row.options
+    with_rules (with_rules (with_rule (with_rule (new_app row.name) (file_argument row.reads)) (flag (codes "explain"))) (input_options row.reads)) row.options
 
 -- it has a version and no command `help`, and it requires a command
 abbrev pub with_settings : App → App

@@ -1,11 +1,13 @@
 -- What a start of the program does with the words of a command line, and with what lies outside.
-use Rattle.std.specs.Prelude.{◌≡◌, ◌≢◌, ◌⊎◌, ⊤, ℕ, Bool, true, false, List, Some, Result, Ok, Err, [], map}
+use Rattle.std.specs.Prelude.{◌≡◌, ◌≢◌, ◌⊎◌, ◌++◌, ◌∷◌, ⊤, ℕ, Bool, true, false, if◌then◌else◌, List, Option, None, Some, Result, Ok, Err, [], map, max, option_copied}
 use Rattle.std.specs.String.{string_bytes}
 use Rattle.std.specs.declared.string.String.{String}
 use Rattle.commands.specs.declared.jobs.Task.{Task}
 use Rattle.commands.specs.declared.jobs.Task.TheVariants.{Do, Schedules, Live, Debug, Check, Ask, Outcomes, Fences, Mend}
 use Rattle.clap.specs.Words.{Text, fault_of}
+use Rattle.commands.specs.declared.fault.Device.TheVariants as devices
 use Rattle.commands.specs.declared.fault.Fault.{Fault}
+use Rattle.commands.specs.declared.fault.Fault.TheVariants as faults
 use Rattle.commands.specs.declared.fault.Stage.TheVariants as stages
 use Rattle.commands.specs.Faults.{missing, read_failed}
 use Rattle.commands.specs.declared.status.Status.{Status}
@@ -31,7 +33,7 @@ use Rattle.mend_jobs.specs.MendCommand.{mend_command}
 use Rattle.mend_jobs.specs.TextReports as mend_texts
 use Rattle.mend_jobs.specs.JsonReports as mend_data
 use Rattle.px86.specs.Commands.{command_line}
-use Rattle.px86.specs.CommandLines.{AsksFor, HasForm, HasMoves, IsDeclinedFor, IsRefusedFor}
+use Rattle.px86.specs.CommandLines.{are_several, AsksFor, HasFiles, HasForm, HasMoves, IsDeclinedFor, IsRefusedFor}
 use Rattle.px86.specs.declared.request.Declined.{Declined}
 use Rattle.px86.specs.declared.request.Declined.TheVariants.{Usage, Shown, NoMemory}
 use Rattle.px86.specs.declared.request.Form.{Form}
@@ -43,34 +45,34 @@ use Rattle.px86.specs.declared.steps.Steps.{Steps}
 use Rattle.px86.specs.declared.steps.Steps.TheVariants.{Standard, File, Nothing}
 use Rattle.px86.specs.Worlds.{World}
 
--- the command of a task whose report is in lines; whether a mend may move a store
-abbrev pub lines_command : Bool → Task → Command
-lines_command moves (Do job) = command_of job
-lines_command moves (Schedules job) = work_command text_reports job
-lines_command moves (Live threads) = live_command text_journals threads
-lines_command moves Debug = debug_command
-lines_command moves (Check options) = check_command options
-lines_command moves (Ask options) = ask_command options
-lines_command moves (Outcomes options) = outcomes_command options
-lines_command moves (Fences options) = fences_command mend_texts.text_reports options
-lines_command moves (Mend options) = mend_command mend_texts.text_reports moves options
+-- the command of a task whose report is in lines; whether a mend may move a store; the name of the file, where it is one of several
+abbrev pub lines_command : Bool → Option Text → Task → Command
+lines_command moves named (Do job) = command_of job
+lines_command moves named (Schedules job) = work_command text_reports job
+lines_command moves named (Live threads) = live_command text_journals threads
+lines_command moves named Debug = debug_command
+lines_command moves named (Check options) = check_command options
+lines_command moves named (Ask options) = ask_command named options
+lines_command moves named (Outcomes options) = outcomes_command options
+lines_command moves named (Fences options) = fences_command mend_texts.text_reports options
+lines_command moves named (Mend options) = mend_command mend_texts.text_reports moves options
 
 -- the command of a task whose report is JSON; that of `asm` and `dis` is none
-abbrev pub json_command : Bool → Task → Command
-json_command moves (Do job) = json_command_of job
-json_command moves (Schedules job) = work_command json_reports job
-json_command moves (Live threads) = live_command json_journals threads
-json_command moves Debug = json_scripts.debug_command
-json_command moves (Check options) = json_runs.check_command options
-json_command moves (Ask options) = json_questions.ask_command options
-json_command moves (Outcomes options) = json_runs.outcomes_command options
-json_command moves (Fences options) = fences_command mend_data.json_reports options
-json_command moves (Mend options) = mend_command mend_data.json_reports moves options
+abbrev pub json_command : Bool → Option Text → Task → Command
+json_command moves named (Do job) = json_command_of job
+json_command moves named (Schedules job) = work_command json_reports job
+json_command moves named (Live threads) = live_command json_journals threads
+json_command moves named Debug = json_scripts.debug_command
+json_command moves named (Check options) = json_runs.check_command options
+json_command moves named (Ask options) = json_questions.ask_command named options
+json_command moves named (Outcomes options) = json_runs.outcomes_command options
+json_command moves named (Fences options) = fences_command mend_data.json_reports options
+json_command moves named (Mend options) = mend_command mend_data.json_reports moves options
 
 -- the command of a task
-abbrev pub task_command : Form → Bool → Task → Command
-task_command Lines moves task = lines_command moves task
-task_command Json moves task = json_command moves task
+abbrev pub task_command : Form → Bool → Option Text → Task → Command
+task_command Lines moves named task = lines_command moves named task
+task_command Json moves named task = json_command moves named task
 
 -- whether steps, or a script, come from the standard input
 abbrev pub is_standard : Input → Bool
@@ -108,6 +110,15 @@ Answer = Result Status Fault
 abbrev pub exit_status : Answer → ℕ
 exit_status (Ok status) = exit_of status
 exit_status (Err fault) = exit_after fault
+
+-- whether it is that a report could not be written
+abbrev pub is_unwritten : Answer → Bool
+is_unwritten (Err (faults.Device devices.Write)) = true
+is_unwritten _ = false
+
+-- the name that a report begins with, where its file is one of several
+abbrev pub name_if : Bool → Text → Option Text
+name_if several file = if several then Some file else None
 
 -- A fault of reading is answered, and nothing is written.
 abbrev pub IsNotBegun : {W : Type 0} → Used W → Answer → Type 0
@@ -156,7 +167,7 @@ module _ {F S C W : Type 0} (outside : World F S C) where
     pub steps_after : Steps F S
     pub is_file : outside.IsFile request.file.now program
     pub come_from : ComeFrom outside request.input steps
-    pub serves : Serves (task_command request.form request.ways.moves request.task) (used outside.file program program_after)
+    pub serves : Serves (task_command request.form request.ways.moves (option_copied request.named) request.task) (used outside.file program program_after)
         (used (steps_device outside.file outside.standard) steps steps_after) out answer
 
   -- There was a conversation, where the words ask for one, and no report is written; otherwise the command is done.
@@ -176,17 +187,40 @@ module _ {F S C W : Type 0} (outside : World F S C) where
       (outside.HasStreams (reads_input request) × DoesByName request out answer)
       ⊎ (outside.LacksStream (reads_input request) × IsNotBegun out answer)
 
-  -- The parse finds no fault in the words, and they ask for a command on a file, with steps from an input. It was done, and
-  -- the exit status is that of what was answered.
-  pub record IsDone (words : List Text) (out : Used W) (status : ℕ) : Type 0 where
+  -- The words ask for a command on this file, which is one of several or is not, with steps from an input; and it was done.
+  pub record IsAnswered (words : List Text) (several : Bool) (file : Text) (out : Used W) (answer : Answer) : Type 0 where
     pub request : Request
-    pub whole : fault_of command_line words ≡ []
+    pub is_of : request.file.now ≡ file
+    pub named : option_copied request.named ≡ name_if several file
     pub asked : AsksFor words request.task request.file.now request.input
     pub formed : HasForm words request.form
     pub moves : HasMoves words request.ways.moves
-    pub answer : Answer
     pub does : Does request out answer
-    pub exits : status ≡ exit_status answer
+
+  -- Files were answered one after another, each on what the one before it left of the output; what is left then, the greatest exit
+  -- status, and whether the report of the last could not be written.
+  pub data AreAnswered (words : List Text) (several : Bool) (seen : W → Device) (first : W) : List Text → W → ℕ → Bool → Type 0 where
+    none : AreAnswered words several seen first [] first 0 false
+    one_more : {files : List Text} {old : W} {status : ℕ} (file : Text) (new : W) (answer : Answer) → AreAnswered words several seen first files old status false
+        → IsAnswered words several file (used seen old new) answer
+        → AreAnswered words several seen first (files ++ file ∷ []) new (max status (exit_status answer)) (is_unwritten answer)
+
+  -- Files were answered in turn, up to one whose report could not be written, if there is one; this is the greatest exit status.
+  pub record AreDone (words : List Text) (files : List Text) (out : Used W) (status : ℕ) : Type 0 where
+    pub done : List Text
+    pub left : List Text
+    pub are : done ++ left ≡ files
+    pub stopped : Bool
+    pub answered : AreAnswered words (are_several files) out.seen out.old done out.new status stopped
+    pub all : (left ≡ []) ⊎ (stopped ≡ true)
+
+  -- The parse finds no fault in the words, and they ask for a command on files, one at least. It was done on each in turn.
+  pub record IsDone (words : List Text) (out : Used W) (status : ℕ) : Type 0 where
+    pub files : List Text
+    pub whole : fault_of command_line words ≡ []
+    pub named : HasFiles words files
+    pub some : files ≢ []
+    pub are : AreDone words files out status
 
 -- The text of help or of the version, or no memory for it. (Which text it is, nothing says.)
 abbrev pub IsText : Result Report Fault → Type 0

@@ -3,20 +3,41 @@ ghost use Rattle.std.specs.Prelude.{◌≡◌, codes, false, map};
 ghost use Rattle.clap.specs.declared.builder.command.Command.TheViews.{out-Command};
 ghost use Rattle.clap.specs.Words.{app_of, new_app, with_rule, with_subcommand, App, Rule};
 ghost use Rattle.px86.specs.Building.{IsArgument, IsCommand, IsProgram};
-ghost use Rattle.px86.specs.Commands.{app_of_row, command_line, file_argument, program_alone, rule_of, told_row, with_rules, with_settings};
+ghost use Rattle.px86.specs.Commands.{app_of_row, command_line, file_argument, one_file, program_alone, rule_of, some_files, told_row, with_rules, with_settings};
 
-use crate::command::{COMMANDS, CommandOption, CommandRow, EXPLAIN, Takes};
+use crate::command::{COMMANDS, CommandOption, CommandRow, EXPLAIN, Reads, Takes};
 use clap::{Arg, ArgAction, Command};
 use std::alloc::{AllocError, Global};
 
 /// The argument FILE.
-fn file_argument<'a>(alloc: Global) -> Arg<'a>
-    ensures { IsArgument result file_argument }
+fn one_file<'a>(alloc: Global) -> Arg<'a>
+    ensures { IsArgument result one_file }
 {
     Arg::new(alloc, "FILE")
         .required(true)
         .action(ArgAction::Set)
-        .help("A litmus text, or an object file of x86 bytes")
+        .help("A litmus text, a sheet, or an object file of x86 bytes")
+}
+
+/// The same, where several files may be given.
+fn some_files<'a>(alloc: Global) -> Arg<'a>
+    ensures { IsArgument result some_files }
+{
+    Arg::new(alloc, "FILE")
+        .required(true)
+        .action(ArgAction::Append)
+        .num_args(1..)
+        .help("A litmus text, a sheet, or an object file; several, to ask the questions of each")
+}
+
+/// The argument of a command.
+fn file_argument<'a>(alloc: Global, reads: Reads) -> Arg<'a>
+    ensures { IsArgument result (file_argument reads) }
+{
+    match reads {
+        Reads::Asked => some_files(alloc),
+        Reads::Nothing | Reads::Steps | Reads::Script => one_file(alloc),
+    }
 }
 
 /// An option.
@@ -73,7 +94,7 @@ fn command_of<'a>(alloc: Global, row: &'static CommandRow) -> Made<'a>
     let command = Command::new(alloc, row.name)
         .about(row.about)
         .after_help(row.more);
-    let command = with_argument(Ok(command), file_argument(alloc));
+    let command = with_argument(Ok(command), file_argument(alloc, row.reads));
     let command = with_argument(command, argument(alloc, EXPLAIN));
     let command = with_options(alloc, command, row.reads.options());
     with_options(alloc, command, row.options)

@@ -23,9 +23,19 @@ fn text_or_null(alloc: Global, text: &str) -> Result<Value, AllocError> {
     }
 }
 
+/// The fields of an object: the name of the file, where it is one of several.
+fn named_fields(alloc: Global, named: Option<&str>) -> Result<Fields, AllocError> {
+    let mut fields = Fields::new(alloc);
+    if let Some(file) = named {
+        put_text(&mut fields, alloc, "file", file)?;
+    }
+    Ok(fields)
+}
+
 /// The object of a fault whose line has this number, this name and this place. The explanation is no text where none is asked for.
 fn fault_value(
     alloc: Global,
+    named: Option<&str>,
     number: &str,
     name: &str,
     place: &str,
@@ -43,7 +53,7 @@ fn fault_value(
     put(&mut fault, alloc, "name", text_or_null(alloc, name)?)?;
     put(&mut fault, alloc, "place", text_or_null(alloc, place)?)?;
     put_text(&mut fault, alloc, "sentence", sentence)?;
-    let mut fields = Fields::new(alloc);
+    let mut fields = named_fields(alloc, named)?;
     put(&mut fields, alloc, "fault", Value::from(fault))?;
     Ok(Value::from(fields))
 }
@@ -51,24 +61,34 @@ fn fault_value(
 /// The object of a fault, as a line: the line that is written without `--json`, taken apart, its sentence, and what explains it.
 fn fault_object(
     alloc: Global,
+    named: Option<&str>,
     line: &str,
     sentence: &str,
     explanation: &str,
 ) -> Result<String, AllocError> {
     let (number, rest) = line.split_once(' ').unwrap_or((line, ""));
     let (name, place) = rest.split_once(' ').unwrap_or((rest, ""));
-    fault_value(alloc, number, name, place, sentence, explanation)?.to_string(alloc)
+    fault_value(alloc, named, number, name, place, sentence, explanation)?.to_string(alloc)
 }
 
 /// The object of a fault, with its sentence and what explains it.
-fn object_of(alloc: Global, fault: Fault, explanation: &str) -> Result<String, AllocError> {
+fn object_of(
+    alloc: Global,
+    named: Option<&str>,
+    fault: Fault,
+    explanation: &str,
+) -> Result<String, AllocError> {
     let line = format!(in alloc; "{fault}")?;
-    fault_object(alloc, line.as_str(), sentence(fault), explanation)
+    fault_object(alloc, named, line.as_str(), sentence(fault), explanation)
 }
 
 /// The object of what is said of a report that was written.
-fn explanation_object(alloc: Global, explanation: &str) -> Result<String, AllocError> {
-    let mut fields = Fields::new(alloc);
+fn explanation_object(
+    alloc: Global,
+    named: Option<&str>,
+    explanation: &str,
+) -> Result<String, AllocError> {
+    let mut fields = named_fields(alloc, named)?;
     put_text(&mut fields, alloc, "explanation", explanation)?;
     Value::from(fields).to_string(alloc)
 }
@@ -85,32 +105,38 @@ fn print_object<R: Eprint>(rt: &R, object: Result<String, AllocError>, fault: Fa
 fn print_answer<R: Eprint>(
     rt: &R,
     alloc: Global,
+    named: Option<&str>,
     answer: Result<Status, Fault>,
     explanation: &str,
 ) {
     match answer {
-        Err(fault) => print_object(rt, object_of(alloc, fault, explanation), fault),
+        Err(fault) => print_object(rt, object_of(alloc, named, fault, explanation), fault),
         Ok(_) if explanation.is_empty() => {}
         Ok(_) => {
-            if let Ok(object) = explanation_object(alloc, explanation) {
+            if let Ok(object) = explanation_object(alloc, named, explanation) {
                 let _ = eprintln!(rt; "{object}");
             }
         }
     }
 }
 
-/// Writes on standard error what an answer says beside its report: the line of a fault and what explains it, or one object.
+/// Writes on standard error what an answer says beside its report: the line of a fault and what explains it, or one object. It has
+/// the name of the file, where that is one of several.
 pub(crate) fn report_answer<R: Eprint>(
     rt: &R,
     alloc: Global,
     form: Form,
+    named: Option<&str>,
     answer: Result<Status, Fault>,
     explanation: &str,
 ) {
     match (form, answer) {
-        (Form::Json, _) => print_answer(rt, alloc, answer, explanation),
+        (Form::Json, _) => print_answer(rt, alloc, named, answer, explanation),
         (Form::Lines, Err(fault)) => {
-            let _ = eprint!(rt; "px86: {fault}\n{explanation}");
+            let _ = match named {
+                Some(file) => eprint!(rt; "px86: {file}: {fault}\n{explanation}"),
+                None => eprint!(rt; "px86: {fault}\n{explanation}"),
+            };
         }
         (Form::Lines, Ok(_)) => {
             let _ = eprint!(rt; "{explanation}");
@@ -125,7 +151,7 @@ pub(crate) fn report_usage<R: Eprint>(rt: &R, alloc: Global, form: Form) {
         Form::Lines => {
             let _ = eprintln!(rt; "px86: {usage}");
         }
-        Form::Json => print_object(rt, fault_object(alloc, "usage", MISREAD, ""), usage),
+        Form::Json => print_object(rt, fault_object(alloc, None, "usage", MISREAD, ""), usage),
     }
 }
 

@@ -64,6 +64,7 @@ A condition compares words and registers with numbers, and joins such tests:
   coherent NAME    what a processor without buffered writes would read of a word
   reg P R          a register of processor P
   = != < <= > >=   with a number; not, and, or, and brackets
+Of a sheet it is written as one of its questions, and may name these, and each `let` and constant.
 
 With --set nothing is listed, and --count, --names, --all and --some may not be given with it. It takes
 a value for each word, in the order of the program. The report is `set I ..`, the places of the
@@ -109,7 +110,9 @@ but those of --steps FILE. The report has a line for each question, in order:
   NAME asked of no state, or with --before-crash, of recovery, NAME not asked
 With --show or --explain-image the run of `fails` and `found` is below the line, as of a condition that
 fails. The status is 0 where each answer is `holds`, `found` or `not asked`, and 1 otherwise. Where the
-program has no questions, the report is `nothing asked`, and the status is 1.
+program has no questions, the report is `nothing asked`, and the status is 1. Of several FILEs each has
+one line: `FILE: N hold`, so many that are asked, or FILE and the first that is not so. Its fault names
+FILE, and the next is asked. The status is the greatest.
 
 A run is any list of accepted steps after those that were given, with any number of crashes. An end is a
 state in which no step but a crash is accepted. Where the steps that were given have crashed, every end
@@ -146,6 +149,8 @@ Where this cannot be told, nothing is reported, and the status is 5:
 
 Examples, with no steps before the runs:
   px86 check transfer.litmus
+  px86 check *.litmus
+  px86 check --all restorable --images --no-steps transfer.litmus
   px86 check --all 'persisted flag = 0 or persisted item = 7' --no-steps queue.litmus
   px86 check --ends 'reg 0 rax = 1 or reg 1 rax = 1' --before-crash --show --no-steps \\
     store-buffering.litmus

@@ -3,9 +3,9 @@
 use crate::arguments::command_line;
 use crate::command::{Bound, Command, CommandOption};
 use crate::options::{
-    asks_ends, count, demand_of, has_condition, has_question, has_value, is_given, lacks_condition,
-    lacks_image, lacks_recovery, lacks_states, needs_condition, number, only_of, small_number,
-    talks_in_json, value,
+    asks_ends, count, demand_of, has_condition, has_question, has_several, has_value, is_given,
+    lacks_condition, lacks_image, lacks_recovery, lacks_states, needs_condition, number, only_of,
+    small_number, talks_in_json, value,
 };
 use clap::error::ErrorKind;
 use clap::{ArgMatches, Error};
@@ -119,6 +119,17 @@ fn question_clash(matches: &ArgMatches<'_>) -> Option<&'static str> {
     }
 }
 
+/// What is said where a condition is asked of several files.
+fn files_clash(matches: &ArgMatches<'_>) -> Option<&'static str> {
+    if has_question(matches) && has_several(matches) {
+        Some(
+            "with --all, --ends, --recovered or --images one FILE may be given: several are asked their own questions",
+        )
+    } else {
+        None
+    }
+}
+
 /// What is said where `check` is asked of recovery that is not explored, why a run breaks no condition, or where a question of
 /// the program and a condition are mixed up.
 fn check_clash(matches: &ArgMatches<'_>) -> Option<&'static str> {
@@ -130,6 +141,7 @@ fn check_clash(matches: &ArgMatches<'_>) -> Option<&'static str> {
     recovery_clash(matches)
         .or(explained)
         .or(question_clash(matches))
+        .or(files_clash(matches))
 }
 
 /// What is said where a place is no place of a program.

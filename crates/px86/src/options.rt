@@ -1,9 +1,9 @@
 //! What a parse found of the options of a command.
-ghost use Rattle.std.specs.Prelude.{◌≡◌, ◌^◌, true, option_copied};
+ghost use Rattle.std.specs.Prelude.{◌≡◌, ◌^◌, ℕ, true, Contains, IfOk, IfSome, List, None, map, option_copied};
 ghost use Rattle.std.specs.List.{starts_with};
 ghost use Rattle.std.specs.Prelude.{codes, nat_eq};
 ghost use Rattle.clap.specs.Words.{first_of, found_of, rows_of};
-ghost use Rattle.px86.specs.CommandLines.{asks_beyond, asks_beyond_lazy, asks_ends, asks_of_all, asks_persisted, default_length, default_states, has_condition, has_question, has_value, is_given, lacks_condition, lacks_image, lacks_recovery, lacks_states, millions_of, needs_condition, talks_in_json, AreCheckOptions, AreHuntOptions, AreNextOptions, AreOptions, AreOutcomesOptions, AreQuestionOptions, AreSchedules, AreTraceOptions, Finds, IsCheckTask, IsCountOr, IsDemand, IsImagesJob, IsNumberIfAny, IsNumberOr, IsPlan, IsSchedule, IsSiteIfAny, IsTallyJob, IsThreadCount, IsThreadCountOr, IsWorkerCount, Spells, SpellsCount};
+ghost use Rattle.px86.specs.CommandLines.{asks_beyond, asks_beyond_lazy, asks_ends, asks_of_all, asks_persisted, default_length, default_states, files_in, has_condition, has_question, has_several, has_value, is_given, lacks_condition, lacks_image, lacks_recovery, lacks_states, millions_of, needs_condition, talks_in_json, AreCheckOptions, AreHuntOptions, AreNextOptions, AreOptions, AreOutcomesOptions, AreQuestionOptions, AreSchedules, AreTraceOptions, Finds, IsCheckTask, IsCountOr, IsDemand, IsImagesJob, IsNumberIfAny, IsNumberOr, IsPlan, IsSchedule, IsSiteIfAny, IsTallyJob, IsThreadCount, IsThreadCountOr, IsWorkerCount, Spells, SpellsCount};
 
 use crate::command::{
     CRASH_AFTER, CommandOption, FIRST, LENGTH, MENDERS, NUMBER, RUNS, SEED, STATES, THREADS,
@@ -16,6 +16,7 @@ use commands::{
     TallyOptions, Task, TraceOptions, site_named,
 };
 use schedule::Plan;
+use std::alloc::{AllocError, Global};
 use workers::MAX_SEATS;
 
 /// How many turns a schedule has at most, where every turn is asked about, or an end to which it comes, and no option says so.
@@ -39,6 +40,41 @@ pub(crate) fn value<'a>(matches: &ArgMatches<'a>, name: &str) -> Option<&'a str>
     ensures { first_of name.now (rows_of (found_of matches.now)) ≡ option_copied result }
 {
     matches.get_str(name)
+}
+
+/// The files that are given.
+///
+/// # Errors
+///
+/// Out of memory.
+pub(crate) fn files_of<'a>(
+    alloc: Global,
+    matches: &ArgMatches<'a>,
+) -> Result<Vec<&'a str>, AllocError>
+    ensures { IfOk result (λ files. map (λ file. file.now) files.items ≡ files_in (rows_of (found_of matches.now))) }
+{
+    match matches.get_strs("FILE") {
+        Some(files) => files.to_vec(alloc),
+        None => Ok(Vec::new(alloc)),
+    }
+}
+
+/// The first of them, if there is one.
+pub(crate) fn first_file<'a>(matches: &ArgMatches<'a>) -> Option<&'a str>
+    ensures some { IfSome result (λ file. Contains (files_in (rows_of (found_of matches.now))) file.now) }
+    ensures none { result ≡ None → (file : List ℕ) → Contains (files_in (rows_of (found_of matches.now))) file → ⊥ }
+{
+    value(matches, "FILE")
+}
+
+/// Whether several are given.
+pub(crate) fn has_several(matches: &ArgMatches<'_>) -> bool
+    ensures { result ≡ has_several (rows_of (found_of matches.now)) }
+{
+    match matches.get_strs("FILE") {
+        Some(files) => 1 < files.len(),
+        None => false,
+    }
 }
 
 /// Whether an option has a value.
@@ -519,6 +555,9 @@ fn check_options<'a>(matches: &ArgMatches<'a>) -> Option<CheckOptions<'a>>
 {
     let states = states_of(matches)?;
     if asks_beyond(matches) {
+        return None;
+    }
+    if has_several(matches) {
         return None;
     }
     Some(CheckOptions {

@@ -1,20 +1,21 @@
 //! What the words of the command line ask for.
-ghost use Rattle.std.specs.Prelude.{◌≡◌, ◌≢◌, [], map, codes, Some, IfOk, IfErr, IfSome, OnOk};
+ghost use Rattle.std.specs.Prelude.{◌≡◌, ◌≢◌, [], map, codes, Some, IfOk, IfErr, IfSome, OnOk, option_copied, option_map};
 ghost use Rattle.std.specs.List.{list_any};
 ghost use Rattle.std.specs.String.{string_bytes};
 ghost use Rattle.clap.specs.Simple.{subcommand_rows_of};
 ghost use Rattle.clap.specs.Words.{fault_of, first_of, found_of, rows_of, HasMatchesOf};
 ghost use Rattle.px86.specs.Commands.{command_line};
-ghost use Rattle.px86.specs.CommandLines.{declined_of, has_question, is_explain, form_of, is_given, Asks, AsksFor, AsksIn, Finds, HasForm, HasFormIn, HasMoves, HasMovesIn, HasProgress, HasProgressIn, IsCheckInput, IsDebugTask, IsDeclinedFor, IsInput, IsInputOf, IsRefusedFor, IsScript, IsTaskOf};
-ghost use Rattle.px86.specs.Starts.{is_console, is_standard};
+ghost use Rattle.px86.specs.CommandLines.{declined_of, has_question, is_explain, form_of, entered_files, is_given, Asks, AsksFor, AsksIn, Finds, HasFiles, HasForm, HasFormIn, HasMoves, HasMovesIn, HasProgress, HasProgressIn, IsCheckInput, IsDebugTask, IsDeclinedFor, IsInput, IsInputOf, IsRefusedFor, IsScript, IsTaskOf};
+ghost use Rattle.px86.specs.Starts.{is_console, is_standard, name_if};
 ghost use Rattle.px86.specs.declared.request.Declined.TheVariants.{NoMemory};
 
 use crate::arguments::command_line;
 use crate::asked_runs::{fences_options, mend_options};
 use crate::command::{Command, Reads};
 use crate::options::{
-    check_task, has_question, hunt_options, images_job, is_given, live_count, next_options,
-    outcomes_options, replay_options, talks_in_json, tally_job, trace_options, value, worker_count,
+    check_task, files_of, first_file, has_question, hunt_options, images_job, is_given, live_count,
+    next_options, outcomes_options, replay_options, talks_in_json, tally_job, trace_options, value,
+    worker_count,
 };
 use clap::error::ErrorKind;
 use clap::{ArgMatches, Error};
@@ -108,6 +109,8 @@ pub struct Request<'a> {
     pub task: Task<'a>,
     /// The name of the file that holds the program.
     pub file: &'a str,
+    /// The same, where it is one of several: its report then begins with it.
+    pub named: Option<&'a str>,
     /// Where the steps or the script come from; from nowhere, where the command has none.
     pub input: Input<'a>,
     /// `--moves` and `--workers`: how a mend is looked for.
@@ -116,6 +119,37 @@ pub struct Request<'a> {
     pub progress: bool,
     /// `--json`: how the report is written.
     pub form: Form,
+}
+
+/// What the words of the command line ask for, on one file or on several.
+#[derive(Debug, Drop)]
+pub struct Requests<'a> {
+    /// What is asked for, on the first file.
+    pub first: Request<'a>,
+    /// The names of all files, in their order.
+    pub files: Vec<&'a str>,
+}
+
+impl<'a> Request<'a> {
+    /// The same on a file that is one of several, or the only one.
+    pub fn of_file(&self, file: &'a str, several: bool) -> Request<'a>
+        ensures file { result.file.now ≡ file.now }
+        ensures named { option_copied result.named ≡ name_if several file.now }
+        ensures task { result.task ≡ self.now.task }
+        ensures input { result.input ≡ self.now.input }
+        ensures moves { result.ways.moves ≡ self.now.ways.moves }
+        ensures form { result.form ≡ self.now.form }
+    {
+        Request {
+            task: self.task,
+            file,
+            named: if several { Some(file) } else { None },
+            input: self.input,
+            ways: self.ways,
+            progress: self.progress,
+            form: self.form,
+        }
+    }
 }
 
 /// How a report is written, where `--json` is given or is not.
@@ -224,7 +258,7 @@ fn input_of<'a>(reads: Reads, matches: &ArgMatches<'a>) -> Option<Input<'a>>
     }
 }
 
-/// What a parse of a command found that it asks for.
+/// What a parse of a command found that it asks for, on the first of its files.
 fn request_for<'a>(command: Command, matches: &ArgMatches<'a>) -> Option<Request<'a>>
     ensures asked { Finds (λ (request : Request).
         Asks (Some command) (rows_of (found_of matches.now)) request.task
@@ -237,11 +271,12 @@ fn request_for<'a>(command: Command, matches: &ArgMatches<'a>) -> Option<Request
         ≡ form_of (is_given (codes "json") (rows_of (found_of matches.now)))) }
 {
     let task = task_of(command, matches)?;
-    let file = value(matches, "FILE")?;
+    let file = first_file(matches)?;
     let input = input_of(command.row().reads, matches)?;
     Some(Request {
         task,
         file,
+        named: None,
         input,
         ways: ways_of(matches),
         progress: is_given(matches, "progress"),
@@ -249,7 +284,7 @@ fn request_for<'a>(command: Command, matches: &ArgMatches<'a>) -> Option<Request
     })
 }
 
-/// The command that a parse entered, with its file and its input.
+/// The command that a parse entered, with its first file and its input.
 fn request_in<'a>(matches: &ArgMatches<'a>) -> Option<Request<'a>>
     ensures asked { Finds (λ (request : Request). AsksIn (subcommand_rows_of matches.now)
         request.task request.file.now request.input) result }
@@ -262,6 +297,42 @@ fn request_in<'a>(matches: &ArgMatches<'a>) -> Option<Request<'a>>
 {
     let (name, matches) = matches.subcommand()?;
     request_for(Command::named(name)?, matches)
+}
+
+/// The files of the command that a parse entered.
+fn entered_files<'a>(alloc: Global, matches: &ArgMatches<'a>) -> Result<Vec<&'a str>, AllocError>
+    ensures { IfOk result (λ files. map (λ file. file.now) files.items ≡ entered_files (subcommand_rows_of matches.now)) }
+{
+    match matches.subcommand() {
+        Some((_, matches)) => files_of(alloc, matches),
+        None => Ok(Vec::new(alloc)),
+    }
+}
+
+/// The request of the command that a parse entered, and the names of its files.
+fn requests_in<'a>(
+    alloc: Global,
+    matches: &ArgMatches<'a>,
+) -> Result<Option<Requests<'a>>, AllocError>
+    ensures asked { IfOk result (λ found. Finds (λ (request : Request).
+        AsksIn (subcommand_rows_of matches.now) request.task request.file.now request.input)
+        (option_map (λ requests. requests.first) found)) }
+    ensures files { IfOk result (λ found. IfSome found (λ requests.
+        map (λ file. file.now) requests.files.items ≡ entered_files (subcommand_rows_of matches.now))) }
+    ensures moves { IfOk result (λ found. IfSome found (λ requests.
+        HasMovesIn (subcommand_rows_of matches.now) requests.first.ways.moves)) }
+    ensures progress { IfOk result (λ found. IfSome found (λ requests.
+        HasProgressIn (subcommand_rows_of matches.now) requests.first.progress)) }
+    ensures form { IfOk result (λ found. IfSome found (λ requests.
+        HasFormIn (subcommand_rows_of matches.now) requests.first.form)) }
+{
+    match request_in(matches) {
+        None => Ok(None),
+        Some(first) => {
+            let files = entered_files(alloc, matches)?;
+            Ok(Some(Requests { first, files }))
+        }
+    }
 }
 
 /// Whether a word is `--explain`.
@@ -285,23 +356,25 @@ pub fn form_in(words: &[String]) -> Form {
 }
 
 /// What the words of the command line ask for. They begin with the program's name.
-pub fn request_of<'a>(alloc: Global, words: &'a [String]) -> Result<Request<'a>, Declined>
+pub fn request_of<'a>(alloc: Global, words: &'a [String]) -> Result<Requests<'a>, Declined>
     ensures whole { OnOk result (fault_of command_line (map string_bytes words.entry.now) ≡ []) }
-    ensures asked { IfOk result (λ request.
-        AsksFor (map string_bytes words.entry.now) request.task request.file.now request.input) }
-    ensures moves { IfOk result (λ request.
-        HasMoves (map string_bytes words.entry.now) request.ways.moves) }
-    ensures progress { IfOk result (λ request.
-        HasProgress (map string_bytes words.entry.now) request.progress) }
-    ensures form { IfOk result (λ request.
-        HasForm (map string_bytes words.entry.now) request.form) }
+    ensures asked { IfOk result (λ requests. AsksFor (map string_bytes words.entry.now)
+        requests.first.task requests.first.file.now requests.first.input) }
+    ensures files { IfOk result (λ requests.
+        HasFiles (map string_bytes words.entry.now) (map (λ file. file.now) requests.files.items)) }
+    ensures moves { IfOk result (λ requests.
+        HasMoves (map string_bytes words.entry.now) requests.first.ways.moves) }
+    ensures progress { IfOk result (λ requests.
+        HasProgress (map string_bytes words.entry.now) requests.first.progress) }
+    ensures form { IfOk result (λ requests.
+        HasForm (map string_bytes words.entry.now) requests.first.form) }
     ensures refused { IfErr result (IsRefusedFor (map string_bytes words.entry.now)) }
     ensures declined { IfErr result (λ declined.
         fault_of command_line (map string_bytes words.entry.now) ≢ []
         → IsDeclinedFor (map string_bytes words.entry.now) declined) }
 {
     let matches = parse(alloc, words)?;
-    let request = request_in(&matches);
+    let requests = requests_in(alloc, &matches);
     drop(matches);
-    request.ok_or(Declined::Usage)
+    requests?.ok_or(Declined::Usage)
 }

@@ -1,5 +1,5 @@
 //! What is done for what the words ask for.
-ghost use Rattle.std.specs.Prelude.{◌≡◌, IfErr, IfOk, Err};
+ghost use Rattle.std.specs.Prelude.{◌≡◌, IfErr, IfOk, Err, option_copied};
 ghost use Rattle.commands.specs.Faults.{read_failed};
 ghost use Rattle.workers.specs.Limits.{MayShare};
 ghost use Rattle.commands.specs.Devices.{CanCountOneMore};
@@ -61,6 +61,7 @@ fn do_on_devices<
 >(
     resources: Resources<'_, R, G>,
     ways: Ways,
+    named: Option<&str>,
     task: &Task<'_>,
     program: &mut P,
     steps: &mut S,
@@ -70,7 +71,7 @@ fn do_on_devices<
     requires program { CanCountOneMore (P.device program.old) }
     requires steps { CanCountOneMore (S.device steps.old) }
     requires out { CanCountOneMore (W.device out.old) }
-    ensures { Serves (lines_command ways.moves task.now) (used P.device program.old program.new)
+    ensures { Serves (lines_command ways.moves (option_copied named.entry) task.now) (used P.device program.old program.new)
         (used S.device steps.old steps.new) (used W.device out.old out.new) result }
 {
     let alloc = resources.alloc;
@@ -84,7 +85,9 @@ fn do_on_devices<
         }
         Task::Debug => debug_scripts::debug(alloc, program, steps, out),
         Task::Check(options) => jobs::check(alloc, options, program, steps, out, &resources.gate),
-        Task::Ask(options) => jobs::ask(alloc, options, program, steps, out, &resources.gate),
+        Task::Ask(options) => {
+            jobs::ask(alloc, named, options, program, steps, out, &resources.gate)
+        }
         Task::Outcomes(options) => {
             jobs::list_outcomes(alloc, options, program, steps, out, &resources.gate)
         }
@@ -122,6 +125,7 @@ fn do_as_json<
 >(
     resources: Resources<'_, R, G>,
     ways: Ways,
+    named: Option<&str>,
     task: &Task<'_>,
     program: &mut P,
     steps: &mut S,
@@ -131,7 +135,7 @@ fn do_as_json<
     requires program { CanCountOneMore (P.device program.old) }
     requires steps { CanCountOneMore (S.device steps.old) }
     requires out { CanCountOneMore (W.device out.old) }
-    ensures { Serves (json_command ways.moves task.now) (used P.device program.old program.new)
+    ensures { Serves (json_command ways.moves (option_copied named.entry) task.now) (used P.device program.old program.new)
         (used S.device steps.old steps.new) (used W.device out.old out.new) result }
 {
     let alloc = resources.alloc;
@@ -141,7 +145,7 @@ fn do_as_json<
             json_jobs::check(alloc, options, program, steps, out, &resources.gate)
         }
         Task::Ask(options) => {
-            json_jobs::ask(alloc, options, program, steps, out, &resources.gate)
+            json_jobs::ask(alloc, named, options, program, steps, out, &resources.gate)
         }
         Task::Outcomes(options) => {
             json_jobs::list_outcomes(alloc, options, program, steps, out, &resources.gate)
@@ -188,6 +192,7 @@ fn do_in_form<
     resources: Resources<'_, R, G>,
     form: Form,
     ways: Ways,
+    named: Option<&str>,
     task: &Task<'_>,
     program: &mut P,
     steps: &mut S,
@@ -197,12 +202,12 @@ fn do_in_form<
     requires program { CanCountOneMore (P.device program.old) }
     requires steps { CanCountOneMore (S.device steps.old) }
     requires out { CanCountOneMore (W.device out.old) }
-    ensures { Serves (task_command form ways.moves task.now) (used P.device program.old program.new)
+    ensures { Serves (task_command form ways.moves (option_copied named.entry) task.now) (used P.device program.old program.new)
         (used S.device steps.old steps.new) (used W.device out.old out.new) result }
 {
     match form {
-        Form::Lines => do_on_devices(resources, ways, task, program, steps, out),
-        Form::Json => do_as_json(resources, ways, task, program, steps, out),
+        Form::Lines => do_on_devices(resources, ways, named, task, program, steps, out),
+        Form::Json => do_as_json(resources, ways, named, task, program, steps, out),
     }
 }
 
@@ -358,6 +363,7 @@ pub(crate) fn do_task<R: Threads + Wait + Sync, O: Outside, W: Sink>(
         resources,
         form,
         request.ways,
+        request.named,
         &request.task,
         &mut program,
         &mut steps,

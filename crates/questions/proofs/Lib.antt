@@ -1,3 +1,4 @@
 pub mod ReversedLists
 pub mod ItemSteps
+pub mod StatementSteps
 pub mod FirstLines

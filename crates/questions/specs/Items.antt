@@ -186,8 +186,6 @@ text_after n items rows = do
   read ← lines_from n items (lines_of rows)
   item_ended read
 
--- the questions in a text
-unfoldable pub questions_in : Scope → ℕ → List ℕ → Result (List NamedQuestion) TextFault
-questions_in scope n rows = do
-  read ← text_after n (no_items scope) rows
-  Ok read.questions
+-- what the items in a text say
+abbrev pub items_in : Scope → ℕ → List ℕ → Result Items TextFault
+items_in scope n rows = text_after n (no_items scope) rows

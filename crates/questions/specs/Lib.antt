@@ -8,3 +8,4 @@ pub mod BodyCodes
 pub mod Questions
 pub mod Items
 pub mod Reading
+pub mod Conditions

@@ -2,10 +2,9 @@
 ghost use Rattle.std.specs.Prelude.{◌≡◌, ◌^◌, ◌≤◌};
 ghost use Rattle.text_tokens.specs.Text.{lines_of};
 ghost use Rattle.questions.specs.Tokens.{item_tokens};
-ghost use Rattle.std.specs.Result.{result_map_both};
 ghost use Rattle.outcomes.specs.Calls.{Answers, Leaves};
 ghost use Rattle.outcomes.specs.Faults.{fault_in};
-ghost use Rattle.questions.specs.Items.{begun, first_after, item_ended, item_said, line_after, lines_from, name_given, no_items, question_asked, questions_in, text_after, token_after, tokens_after, tokens_from};
+ghost use Rattle.questions.specs.Items.{begun, first_after, item_ended, item_said, items_in, line_after, lines_from, name_given, no_items, question_asked, text_after, token_after, tokens_after, tokens_from};
 
 use crate::item::{Head, Item, Purpose, head_of, is_question, told};
 use crate::question::{NamedQuestion, Place};
@@ -269,28 +268,34 @@ impl Items {
         self.end_item(alloc)
     }
 
-    /// The questions.
-    fn into_questions(self) -> Vec<NamedQuestion>
-        ensures { result.items ≡ self.questions }
+    /// The questions, and what a condition may name behind them.
+    pub(crate) fn into_parts(self) -> (Vec<NamedQuestion>, Scope)
+        ensures questions { result.0.items ≡ self.questions }
+        ensures scope { result.1 ≡ self.scope }
     {
-        self.questions
+        let Items {
+            scope,
+            questions,
+            item,
+        } = self;
+        drop(item);
+        (questions, scope)
     }
 }
 
-/// The questions in a text, of whose lines the first has the number `first`.
-#[tactic(auto, unfolding(crate::specs::Items::questions_in))]
-pub(crate) fn read_questions(
+/// What the items in a text say, of whose lines the first has the number `first`.
+pub(crate) fn read_items(
     alloc: Global,
     scope: Scope,
     first: usize,
     rows: &[u8],
-) -> Result<Vec<NamedQuestion>, OrNoMemory<TextFault>>
+) -> Result<Items, OrNoMemory<TextFault>>
     requires { first ≤ 2 ^ 63 }
-    ensures { Answers fault_in (questions_in scope first rows.now) (result_map_both (λ v. v.items) (λ e. e) result) }
+    ensures { Answers fault_in (items_in scope first rows.now) result }
 {
     let mut items = Items::new(alloc, scope);
     match items.read_text(alloc, first, rows) {
-        Ok(()) => Ok(items.into_questions()),
+        Ok(()) => Ok(items),
         Err(error) => {
             drop(items);
             Err(error)

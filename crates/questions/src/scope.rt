@@ -43,15 +43,15 @@ impl Model for Entry {
     ghost view = { λ e. record { name = e.name.items; meaning = e.meaning; size = e.size } };
 }
 
-/// What the tokens of an item may name.
+/// What the tokens of an item, or of a condition behind the items, may name.
 #[derive(Drop)]
 pub struct Scope {
     /// The words and constants of the sheet.
-    pub names: Names,
+    pub(crate) names: Names,
     /// How many processors it has.
-    pub processors: usize,
+    pub(crate) processors: usize,
     /// The earlier items.
-    pub entries: Vec<Entry>,
+    pub(crate) entries: Vec<Entry>,
 }
 
 impl Model for Scope {

@@ -3,6 +3,7 @@ use Rattle.std.specs.Prelude.{◌≡◌, ℕ, ◌+◌, List, nat_lt}
 use Rattle.outcomes.specs.Outcomes.{refuse}
 use Rattle.isa.specs.Objects.{Object}
 use Rattle.litmus_text.specs.TextLines.{TextLines}
+use Rattle.litmus_text.specs.declared.text_lines.LinedObject.{LinedObject}
 use Rattle.machine.specs.Objects.{opening}
 use Rattle.machine.specs.State.{State}
 use Rattle.machine.specs.Steps.{run_of}
@@ -12,7 +13,7 @@ use Rattle.schedule.specs.Ranges.{max_schedules}
 use Rattle.schedule.specs.declared.range.Range.{Range}
 use Rattle.commands.specs.declared.fault.Refused.TheVariants.{TooManySchedules}
 use Rattle.commands.specs.declared.jobs.TallyOptions.{TallyOptions}
-use Rattle.commands.specs.Programs.{condition_work, lined_work, list_work, state_work}
+use Rattle.commands.specs.Programs.{condition_work, list_work, questioned_work, state_work}
 use Rattle.commands.specs.Works.{◌>>=◌, Work, done, test}
 
 -- the number behind that of the last schedule that is asked for
@@ -36,12 +37,18 @@ pub record HuntStart : Type 0 where
 abbrev pub range_work : TallyOptions → Work (Unit {0})
 range_work schedules = test (refuse TooManySchedules (nat_lt max_schedules (end_of schedules)))
 
+-- a program, and a condition of this text on it
+abbrev pub asked_work : List ℕ → List ℕ → Work (LinedObject × Formula)
+asked_work text program = do
+  read ← questioned_work program
+  condition ← condition_work read text
+  done (read.lined, condition)
+
 -- what a hunt for a condition of this text begins with
 abbrev pub start_work : List ℕ → TallyOptions → List ℕ → List ℕ → Work HuntStart
 start_work text schedules program steps = do
-  lined ← lined_work program
-  condition ← condition_work lined.object.layout text
+  asked ← asked_work text program
   range ← range_work schedules
   list ← list_work steps
-  state ← state_work (run_of list (opening lined.object))
-  done (record { object = lined.object; lines = lined.lines; condition = condition; steps = list; state = state; schedules = schedules })
+  state ← state_work (run_of list (opening asked.0.object))
+  done (record { object = asked.0.object; lines = asked.0.lines; condition = asked.1; steps = list; state = state; schedules = schedules })

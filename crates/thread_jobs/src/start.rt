@@ -2,15 +2,17 @@
 ghost use Rattle.std.specs.Prelude.{◌≡◌, IfOk};
 ghost use Rattle.std.specs.Result.{result_map_both};
 ghost use Rattle.commands.specs.Works.{Makes};
-ghost use Rattle.thread_jobs.specs.HuntStarts.{range_work, start_work, AreNumbersOf};
+ghost use Rattle.thread_jobs.specs.HuntStarts.{asked_work, range_work, start_work, AreNumbersOf};
 
 use commands::{
-    Fault, Refused, TallyOptions, machine_after, read_condition, read_lined, read_list,
+    Fault, Refused, TallyOptions, machine_after, read_condition, read_list, read_questions,
 };
+use conditions::Cond;
 use hunt::Search;
 use isa::Object;
-use litmus_text::TextLines;
+use litmus_text::{LinedObject, TextLines};
 use machine::Step;
+use questions::Questioned;
 use schedule::Range;
 use std::alloc::Global;
 use std::marker::Model;
@@ -60,6 +62,29 @@ pub(crate) fn range_of(schedules: &TallyOptions) -> Result<Range, Fault>
     }
 }
 
+/// A program, and a condition of this text on it.
+#[tactic(auto, using(commands::proofs::WorksInTurn::turns))]
+fn asked_program(alloc: Global, text: &str, program: &[u8]) -> Result<(LinedObject, Cond), Fault>
+    ensures { Makes (asked_work text.now program.now) result }
+{
+    let program = read_questions(alloc, program)?;
+    match read_condition(alloc, &program, text) {
+        Ok(cond) => {
+            let Questioned {
+                lined,
+                questions,
+                scope,
+            } = program;
+            drop((questions, scope));
+            Ok((lined, cond))
+        }
+        Err(fault) => {
+            drop(program);
+            Err(fault)
+        }
+    }
+}
+
 /// What a hunt begins with that looks, among the schedules that are asked for, for what breaks a condition of this text.
 #[tactic(auto, using(commands::proofs::WorksInTurn::turns))]
 pub(crate) fn hunt_start(
@@ -71,8 +96,7 @@ pub(crate) fn hunt_start(
 ) -> Result<HuntStart, Fault>
     ensures { Makes (start_work text.now schedules.now program.now steps.now) result }
 {
-    let lined = read_lined(alloc, program)?;
-    let cond = read_condition(alloc, lined.object.layout(), text)?;
+    let (lined, cond) = asked_program(alloc, text, program)?;
     let range = range_of(schedules)?;
     let steps = read_list(alloc, steps)?;
     let machine = machine_after(alloc, &lined.object, &steps)?;

@@ -1,4 +1,5 @@
 use Rattle.std.proofs.Common.{◌≡◌, ◌∙◌, ℕ, List, Ok, ap, inl, subst}
+use Rattle.std.specs.Prelude.{option_copied}
 use Rattle.commands.specs.Serving.{Sources}
 use Rattle.commands.specs.Works.{Makes}
 use Rattle.jobs.specs.Questions.{Asking, asking_start}
@@ -14,5 +15,5 @@ returns g c =
     let steps : c.deref-2.result.now ≡ c.args.sources.now.steps = c.deref-2.ensures.value ∙ ap (λ (s : Sources). s.steps) c.sources.view_is in
     let here = subst (λ (p : List ℕ). Makes (asking_start options p c.deref-2.result.now) (Ok asking)) program c.in_ok-start.ensures.start in
     let begun = subst (λ (s : List ℕ). Makes (asking_start options c.args.sources.now.program s) (Ok asking)) steps here in
-    let right = subst (λ (a : Asking). IsReported (found_text options) options a c.answers_report-report.result) c.start.view_is c.answers_report-report.ensures in
+    let right = subst (λ (a : Asking). IsReported (found_text (option_copied c.args.file) options) options a c.answers_report-report.result) c.start.view_is c.answers_report-report.ensures in
     inl (asking, begun, right)

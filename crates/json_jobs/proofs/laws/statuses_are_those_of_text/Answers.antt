@@ -11,7 +11,8 @@ use Rattle.json_jobs.specs.JsonReports.{json_form}
 use Rattle.json_jobs.specs.EndReports as end_values
 use Rattle.json_jobs.specs.NextReports as next_values
 use Rattle.json_jobs.specs.StepReports as step_values
-use Rattle.json_jobs.proofs.EndsAsText.{end_alike, lined_alike, next_alike, printed_alike, run_alike, trace_alike}
+use Rattle.questions.specs.Questions.{Questioned}
+use Rattle.json_jobs.proofs.EndsAsText.{end_alike, lined_alike, next_alike, printed_alike, read_alike, run_alike, trace_alike}
 use Rattle.json_jobs.proofs.RunsEndAsText.{check_alike, outcomes_alike, same_failed, same_found}
 use Rattle.json_jobs.proofs.laws.statuses_are_those_of_text.Goals as goal
 
@@ -19,9 +20,10 @@ pub returns : goal.returns
 returns c = record {
   run = λ both. end_alike both.program (λ (lines : TextLines) (object : Object). end_values.run_on object lines both.steps)
       (λ (object : Object). texts.run_on object both.steps) (λ lines object. run_alike object lines both.steps);
-  images = λ options both. lined_alike both.program (λ (lines : TextLines) (object : Object). values.images_on options object lines both.steps)
-      (λ (lines : TextLines) (object : Object). texts.images_on options object lines both.steps)
-      (λ lines object. printed_alike (texts.images_found options object both.steps) stages.Images (json_form (values.images_data_of (values.source_of object lines))) (texts.images_text options.names object.layout lines));
+  images = λ options both. read_alike both.program (λ (read : Questioned). values.images_on options read both.steps)
+      (λ (read : Questioned). texts.images_on options read both.steps)
+      (λ read. printed_alike (texts.images_found options read both.steps) stages.Images (json_form (values.images_data_of (values.source_of read.lined.object read.lined.lines)))
+      (texts.images_text options.names read.lined.object.layout read.lined.lines));
   set = λ options both. lined_alike both.program (λ (lines : TextLines) (object : Object). values.set_on options object lines both.steps)
       (λ (lines : TextLines) (object : Object). texts.set_on options object lines both.steps)
       (λ lines object. printed_alike (texts.set_found options object both.steps) stages.Images (json_form (values.set_data (values.source_of object lines))) (texts.set_lines object.layout lines));

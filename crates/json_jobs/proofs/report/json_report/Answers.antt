@@ -9,12 +9,12 @@ unfolding json_command_of
 returns c =
     let program : c.deref.result.now ≡ c.args.sources.now.program = search rules in
     let steps : c.deref-2.result.now ≡ c.args.sources.now.steps = search rules in
-    made_of_program c.args.job.now c.args.sources.now c.in_ok-lined.lined _ (rw program at c.in_ok-lined.ensures)
+    made_of_program c.args.job.now c.args.sources.now c.in_ok-program.program _ (rw program at c.in_ok-program.ensures)
     (rw steps at c.json_on-report.ensures.report) (rw steps at c.json_on-report.ensures.exact)
 
-pub returns-in_err-lined : goal.returns-in_err-lined
+pub returns-in_err-program : goal.returns-in_err-program
 unfolding json_command_of
-returns-in_err-lined c =
+returns-in_err-program c =
     let program : c.deref.result.now ≡ c.args.sources.now.program = search rules in
     let e = err_from_is_err_and c.from_residual.result c.from_residual.ensures.1 in
-    rw (e.1, e.2) (unmade c.args.job.now c.args.sources.now _ (rw program at c.in_err-lined.ensures))
+    rw (e.1, e.2) (unmade c.args.job.now c.args.sources.now _ (rw program at c.in_err-program.ensures))
