@@ -19,7 +19,7 @@ from collections.abc import Iterator
 
 from tests.harness import TIMED_OUT, TOP, Case, Checks, NotRun, Px86, differs, read, run, with_parallel
 
-AT_LEAST = {"command ": 68, "block ": 15, "link ": 50, "table ": 55}
+AT_LEAST = {"command ": 69, "block ": 15, "link ": 50, "table ": 55}
 NEEDS_PROGRAM = True
 FOLDERS = "*.md", "docs/*.md", "record/*.md", "look/*.md", "examples/**/*.md"
 PASSED_OVER = "<!-- new command -->"

@@ -474,6 +474,34 @@ def explained(px86: Px86, *words: str) -> Checks:
     yield "", unlike(found, wanted) if wanted else "nothing is explained"
 
 
+SHEET = "sheet 1\nline x y\ncpu\nmov [x], 1\nend\nevery crash ok: persisted x = 0 -> persisted y = 0\n"
+# The line that is changed, how, and `line`, `column`, `length` and `hint`; all counted here by hand.
+POSITIONS = {
+    "a word of a litmus text": ("litmus 1\nline x\ncpu\nmvo [x], 1\nend\n", (4, 1, 3, "perhaps `mov` is meant.")),
+    "a comma that is missing at the end": ("litmus 1\nline x\ncpu\n  mov [x]\nend\n", (4, 10, 0, "a word is out of place, missing or extra, or no instruction, register or line has this name.")),
+    "a word of a sheet": (SHEET.replace("mov [x]", "mov [z]"), (4, 6, 1, "no line before this one gives a word or a constant of this name, and no register has it; in a question, no `let` or question before it has it, or the program has no processor of this number.")),
+    "a token of a question": (SHEET.replace("= 0 ->", "== 0 ->"), (6, 29, 2, "equality is `=`.")),
+    "a question that ends too soon": (SHEET.replace("-> persisted y = 0", "->"), (6, 35, 0, "the condition ends too soon: each side of a test has its value, each `and`, `or`, `not` and `->` a condition behind it, and each `(` and `[` its end.")),
+    "an abbreviation of which no token is known": (SHEET.replace("line x y", "line x y\ninit y 1 2"), (3, 1, 10, "a value is given to a word, or one to each of several in order: no word is left for one of these.")),
+}
+
+
+def has_position(px86: Px86, text: str, wanted: tuple[int, int, int, str]) -> Checks:
+    """With --explain the object of a fault of a text says where it is, and without not."""
+    px86.keep("wrong.litmus", text)
+    for words in ["run", "--no-steps"], ["check"]:
+        plain, told = (json.loads(px86(*words, "--json", *more, "wrong.litmus", cwd=px86.folder).said)["fault"] for more in ([], ["--explain"]))
+        yield words[0], unlike(tuple(told[it] for it in ("line", "column", "length", "hint")), wanted)
+        yield f"{words[0]}, not explained", unlike({*told} - {*plain}, {"line", "column", "length", "hint"})
+
+
+def has_no_position(px86: Px86) -> Checks:
+    """A fault of a condition is in no text of a program."""
+    px86.keep("asked.litmus", "litmus 1\nline x\ncpu\nmov [x], 1\nend\n")
+    fault = json.loads(px86("check", "--all", "persisted x == 1", "--json", "--explain", "asked.litmus", cwd=px86.folder).said)["fault"]
+    yield "", unlike("line" in fault or fault["explanation"] is None, False)
+
+
 def commands_have_it(px86: Px86) -> Checks:
     """Each command that takes `--json` is asked here, and each other one refuses it."""
     yield "the commands that take it", unlike(sorted(commands_of(px86, " --json ")), sorted(COMMANDS))
@@ -586,4 +614,6 @@ def cases() -> Iterator[Case]:
             yield Case(f"{name}: three threads", of_threads, path, bytes_of(steps))
     yield from (Case(f"{name}, explained", explained, *words) for name, words in EXPLAINED.items())
     yield from (Case(name, is_fault, *given) for name, given in FAULTS.items())
+    yield from (Case(f"where a fault is: {name}", has_position, *given) for name, given in POSITIONS.items())
+    yield Case("where the fault of a condition is", has_no_position)
     yield Case("commands", commands_have_it)

@@ -2,6 +2,7 @@
 use crate::conditions_asked::{push_condition_fault, push_set_fault};
 use crate::evidence::Evidence;
 use crate::parts::{Pushed, again, push_sentence};
+use crate::position::{Position, position_of};
 use crate::program_faults::push_text_fault;
 use crate::refused::push_refusal;
 use crate::script_faults::{push_double_id, push_script_line_fault, push_stop_fault};
@@ -16,15 +17,53 @@ use questions::Questioned;
 use sheets::is_sheet;
 use std::alloc::{AllocError, Global};
 
-/// The lines after the line of a fault: the place, and the sentence.
+/// What explains an answer.
+#[derive(Drop)]
+pub struct Explanation {
+    /// The lines after the line of a fault, or after a report: the place, and the sentence.
+    pub text: String,
+    /// Where the fault is, if it is one of the program's text.
+    pub position: Option<Position>,
+}
+
+impl Explanation {
+    /// Lines of no place in the program's text.
+    pub fn of_lines(text: String) -> Explanation {
+        Explanation {
+            text,
+            position: None,
+        }
+    }
+
+    /// The last line, without the number that it begins with: what was expected, or what to do.
+    pub fn hint(&self) -> &str {
+        let text = self.text.as_str();
+        let text = text.strip_suffix("\n").unwrap_or(text);
+        let last = match text.rsplit_once('\n') {
+            Some((_, last)) => last,
+            None => text,
+        };
+        match last.split_once(": ") {
+            Some((_, hint)) => hint,
+            None => last,
+        }
+    }
+}
+
+/// What explains a fault.
 ///
 /// # Errors
 ///
 /// Out of memory.
-pub fn explain(alloc: Global, evidence: &Evidence<'_>, fault: Fault) -> Result<String, AllocError> {
+pub fn explain(
+    alloc: Global,
+    evidence: &Evidence<'_>,
+    fault: Fault,
+) -> Result<Explanation, AllocError> {
     let mut text = String::new(alloc);
     push_explanation(&mut text, evidence, fault)?;
-    Ok(text)
+    let position = position_of(alloc, evidence.program, fault)?;
+    Ok(Explanation { text, position })
 }
 
 /// What `check` may do where there are too many states.

@@ -388,6 +388,139 @@ const ATOMS: [Row; 3] = [
     ),
 ];
 
+/// What is said of the first line of a sheet, and of addresses in one, which have names.
+const SHEETS_WORDS: [Row; 3] = [
+    (
+        &[In(&[Stage::Opening])],
+        "the first line of a sheet is `sheet 1`.",
+    ),
+    (
+        &[IsOneOf(&["lea", "offset"])],
+        "an address is written as `&NAME`: `mov rax, &NAME`.",
+    ),
+    (
+        &[First("mov"), After(1), TakesBracket, Given(true)],
+        "the word is `[{}]`; its address is its name with `&` before it.",
+    ),
+];
+
+/// Words that name no item.
+const ITEM_WORDS: [&str; 10] = [
+    "not",
+    "and",
+    "or",
+    "persisted",
+    "coherent",
+    "reg",
+    "trapped",
+    "let",
+    "every",
+    "some",
+];
+
+/// What is said of words of other notations in an item.
+const ITEM_SIGNS: [Row; 8] = [
+    (&[IsOneOf(&["==", "==="])], "equality is `=`."),
+    (&[Is("<>")], "write `!=`."),
+    (&[IsOneOf(&["&&", "&", "AND", "/\\"])], "write `and`."),
+    (&[IsOneOf(&["||", "|", "OR", "\\/"])], "write `or`."),
+    (&[IsOneOf(&["=>", "implies"])], "write `->`."),
+    (&[IsOneOf(&["!", "NOT", "~"])], "write `not`."),
+    (
+        &[Is("->")],
+        "one `->` alone stands outside of brackets, or between the same: write `A -> ( B -> C )`.",
+    ),
+    (
+        &[Is("-")],
+        "`-` stands between two values, and not between `[` and `]`.",
+    ),
+];
+
+/// What is said of a token that may not be where it is in an item.
+const ITEM_ATOMS: [Row; 4] = [
+    (
+        &[Is("")],
+        "the condition ends too soon: each side of a test has its value, each `and`, `or`, `not` and `->` a condition behind it, and each `(` and `[` its end.",
+    ),
+    (&[IsOneOf(&[",", ":"])], "no such mark is in a condition."),
+    (
+        &[Has("=<>"), HasAlphanumeric],
+        "put blanks around the sign.",
+    ),
+    (
+        &[Is("trapped")],
+        "no condition asks whether a processor has trapped: no item has this name.",
+    ),
+];
+
+/// What is said of a register in an item.
+const ITEM_REGISTERS: [Row; 2] = [
+    (
+        &[Behind(&["reg"]), Register],
+        "the number of the processor comes first, as `reg 0 rax`.",
+    ),
+    (
+        &[Register],
+        "a register is one of a processor: write `reg P` before it, as `reg 0 rax`.",
+    ),
+];
+
+/// What is said of a name in an item that nothing has.
+const ITEM_NAMES: [Row; 5] = [
+    (
+        &[WordOfLayout],
+        "a word has two values: write `persisted` or `coherent` before its name.",
+    ),
+    (
+        &[Behind(&["reg"])],
+        "the program has no processor of this number: they count from 0.",
+    ),
+    (
+        &[Begins(&["&"])],
+        "the address of a word is its name with `&` before it, and no word has this one.",
+    ),
+    (&[HasUppercase], "no `const` gives this constant."),
+    (
+        &[Has("=<>"), HasAlphanumeric],
+        "put blanks around the sign.",
+    ),
+];
+
+/// What is said of the name of an item.
+const ITEM_NAME: [Row; 1] = [(
+    &[IsOneOf(&ITEM_WORDS)],
+    "conditions are made of this word, so that no item has it as its name.",
+)];
+
+/// What is said of a name that is well spelled.
+const DOUBLE_ITEM: [Row; 1] = [(&[Name], "an earlier item has this name.")];
+
+/// Rows of a word of a sheet's program, before those of a litmus text.
+pub(crate) static OF_A_SHEETS_WORD: [Rows; 1] = [(&[], &SHEETS_WORDS)];
+
+/// Rows of a token that may not be where it is in an item.
+pub(crate) static OF_AN_ITEM: [Rows; 4] = [
+    (&[], &ITEM_SIGNS),
+    (&[], &REGISTERS),
+    (&[], &ITEM_REGISTERS),
+    (&[], &ITEM_ATOMS),
+];
+
+/// Rows of a name in an item that nothing has.
+pub(crate) static OF_AN_ITEMS_NAME: [Rows; 3] = [
+    (&[], &ITEM_NAMES),
+    (&[], &REGISTERS),
+    (&[], &ITEM_REGISTERS),
+];
+
+/// Rows of the name of an item.
+pub(crate) static OF_AN_ITEM_NAMED: [Rows; 4] = [
+    (&[], &ITEM_NAME),
+    (&[], &DOUBLE_ITEM),
+    (&[], &NAMES),
+    (&[], &NAME_BYTES),
+];
+
 /// Rows of a word of a program that is out of place or unknown.
 pub(crate) const OF_A_WORD: [Rows; 11] = [
     (&[], &PLACES),

@@ -37,12 +37,11 @@ pub(crate) fn push_shown(text: &mut String, bytes: &[u8]) -> Pushed {
     Ok(())
 }
 
-/// Appends a line without marks, or its beginning, where it is long.
-pub(crate) fn push_line(text: &mut String, line: &[u8]) -> Pushed {
+/// Appends a line without marks, or its beginning, where it is long; and no line feed.
+pub(crate) fn push_unmarked(text: &mut String, line: &[u8]) -> Pushed {
     let end = SHOWN.min(line.len());
     text.push_str(" | ")?;
-    push_shown(text, &line[..end])?;
-    text.push_str("\n")
+    push_shown(text, &line[..end])
 }
 
 /// Appends a character so many times.

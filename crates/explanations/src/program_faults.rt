@@ -13,7 +13,7 @@ use litmus_text::{LineFault, TextFault};
 use std::alloc::AllocError;
 
 /// What there is to say of a fault of a line.
-fn hint(kind: LineFault, spot: &Spot<'_>) -> &'static str {
+pub(crate) fn hint(kind: LineFault, spot: &Spot<'_>) -> &'static str {
     match kind {
         LineFault::BadWord => hint_of(&OF_A_WORD, spot),
         LineFault::UnknownName => hint_of(&OF_AN_UNKNOWN_NAME, spot),
@@ -30,7 +30,7 @@ fn hint(kind: LineFault, spot: &Spot<'_>) -> &'static str {
 }
 
 /// The word or the name that is meant by a token of a program that is none but for a slip; and how that is said, with `{}` for it.
-fn meant<'p>(
+pub(crate) fn meant<'p>(
     kind: LineFault,
     stage: Stage,
     program: &'p [u8],
@@ -66,7 +66,11 @@ fn push_token_sentence(
 }
 
 /// Appends what may be in place of a word that is out of place. Whether a `[` may be.
-fn push_wanted(text: &mut String, stage: Stage, line: &[u8]) -> Result<bool, AllocError> {
+pub(crate) fn push_wanted(
+    text: &mut String,
+    stage: Stage,
+    line: &[u8],
+) -> Result<bool, AllocError> {
     let slots = program_misfit(*text.allocator(), stage, line)?.slots;
     push_slots(text, &slots)?;
     Ok(slots.iter().any(|slot| *slot == Slot::Word("[")))

@@ -12,6 +12,9 @@ pub(crate) const WORD_MEANT: &str = "perhaps `{}` is meant.";
 /// What is said of the name of a word that is meant.
 pub(crate) const NAME_MEANT: &str = "no word of the program has this name: perhaps `{}` is meant.";
 
+/// What is said of the name of an item that is meant.
+pub(crate) const ITEM_MEANT: &str = "no item before has this name: perhaps `{}` is meant.";
+
 /// Words that begin a test of a condition, or stand between tests.
 const CONDITION_WORDS: [&str; 5] = ["persisted", "coherent", "reg", "not", "and"];
 
@@ -37,6 +40,9 @@ const PROGRAM_WORDS: [&str; 16] = [
 
 /// Words that begin lines before the first processor.
 const DATA_WORDS: [&str; 3] = ["line", "init", "cpu"];
+
+/// Words that begin an item of a sheet.
+const ITEM_STARTS: [&str; 3] = ["let", "every", "some"];
 
 /// Whether two texts that differ in their first bytes are one but for a slip: a byte too many, too few or another, or two bytes
 /// the other way round.
@@ -138,6 +144,41 @@ pub(crate) fn condition_meant<'l>(
     }
     let word = among(token, &CONDITION_WORDS)?;
     Some((WORD_MEANT, word))
+}
+
+/// The word that begins an item which a token is but for a slip.
+pub(crate) fn item_start_meant(token: &[u8]) -> Option<&'static [u8]> {
+    among(token, &ITEM_STARTS)
+}
+
+/// The word of which items are made that a token is but for a slip.
+pub(crate) fn item_word_meant(token: &[u8]) -> Option<&'static [u8]> {
+    item_start_meant(token).or(among(token, &CONDITION_WORDS))
+}
+
+/// The name of the item that a line begins, if it begins one.
+fn item_named(line: &[u8]) -> Option<&[u8]> {
+    let mut tokens = Tokens::new(line);
+    let first = tokens.next()?;
+    let second = tokens.next()?;
+    if first == b"let".as_slice() {
+        Some(second)
+    } else if first == b"every".as_slice() || first == b"some".as_slice() {
+        tokens.next()
+    } else {
+        None
+    }
+}
+
+/// The first item of the lines above this one, from 1, whose name a token is but for a slip.
+pub(crate) fn item_meant<'s>(token: &[u8], sheet: &'s [u8], number: usize) -> Option<&'s [u8]> {
+    for line in Lines::new(sheet).take(number.saturating_sub(1)) {
+        match item_named(line) {
+            Some(name) if is_slip(token, name) => return Some(name),
+            _ => {}
+        }
+    }
+    None
 }
 
 /// The word that a token at the beginning of a line of a program is but for a slip, where the reading is at this stage.

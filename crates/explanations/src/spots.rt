@@ -1,7 +1,7 @@
 //! What a hint may ask of a token that is refused, and of what is around it.
 use crate::parts::bytes_at;
 use isa::Reg;
-use line_forms::{Place, Stage, condition_or_end, token_or_end};
+use line_forms::{Place, Stage, condition_or_end, statement_or_end, token_or_end};
 use lines_layout::{Layout, NAME_LENGTH, is_name};
 use text_tokens::{Lines, Tokens, begins_number, number};
 
@@ -109,6 +109,11 @@ fn condition_token(text: &[u8], index: usize) -> &[u8] {
     bytes_at(text, condition_or_end(text, index))
 }
 
+/// The token of this index of a line of a sheet's items, or no bytes.
+fn item_token(line: &[u8], index: usize) -> &[u8] {
+    bytes_at(line, statement_or_end(line, index))
+}
+
 /// The token before that of this index of a condition, or no bytes.
 fn token_before(text: &[u8], index: usize) -> &[u8] {
     match index.checked_sub(1) {
@@ -149,7 +154,7 @@ fn begins_no_name(token: &[u8]) -> bool {
 }
 
 /// Whether a line gives a word this name.
-fn gives(line: &[u8], name: &[u8]) -> bool {
+pub(crate) fn gives(line: &[u8], name: &[u8]) -> bool {
     let mut tokens = Tokens::new(line);
     tokens.next() == Some(b"line".as_slice()) && tokens.any(|token| token == name)
 }
@@ -195,6 +200,20 @@ impl<'a> Spot<'a> {
             before: token_before(text, index),
             is_word: layout.word(token).is_some(),
             ..Spot::on_line(text, token)
+        }
+    }
+
+    /// The token of this index of a line of a sheet's items, of which these lines give the words.
+    pub(crate) fn in_item(said: &'a [u8], line: &'a [u8], index: usize) -> Spot<'a> {
+        let token = item_token(line, index);
+        Spot {
+            program: said,
+            before: match index.checked_sub(1) {
+                Some(before) => item_token(line, before),
+                None => b"",
+            },
+            is_word: Lines::new(said).any(|line| gives(line, token)),
+            ..Spot::on_line(line, token)
         }
     }
 

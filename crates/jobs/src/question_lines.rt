@@ -7,9 +7,7 @@ ghost use Rattle.jobs.specs.QuestionReports.{answer_text, answered_text, answers
 use crate::explained::Explained;
 use crate::failure::behind_failed;
 use crate::form::{Answer, Form};
-use crate::question_answer::{
-    Answered, QuestionAnswer, QuestionsFound, asked_count, first_bad,
-};
+use crate::question_answer::{Answered, QuestionAnswer, QuestionsFound, asked_count, first_bad};
 use crate::questions_asked::run_options;
 use crate::start::Start;
 use commands::{QuestionOptions, Report, behind, push_number, word_name};

@@ -1,7 +1,7 @@
 //! Sheets: copies, constants and addresses, the lines of instructions in copies, faults, and lines of questions. The texts that are
 //! told were worked out by hand.
 use litmus_text::{TextLines, write_litmus};
-use sheets::{is_sheet, read_sheet};
+use sheets::{is_sheet, read_sheet, said_by};
 use std::alloc::Global;
 use std::test::Fail;
 
@@ -156,5 +156,16 @@ fn questions_are_kept_as_they_stand(rt: HostRuntime) -> Result<(), Fail> {
         }
         Err(_) => assert!(rt; false),
     }
+    Ok(())
+}
+
+/// A sheet that says three lines before a fault of its own, and the line behind this.
+const FAULTY: &[u8] = b"sheet 1\nline * 2 x$ # two\nconst a 6\ncpu";
+
+#[test]
+fn a_sheet_says_nothing_behind_its_fault(rt: HostRuntime) -> Result<(), Fail> {
+    let said = said_by(rt.alloc(), FAULTY)?;
+    assert!(rt; said.text.as_slice() == b"litmus 1 \nline x0 \nline x1 \n".as_slice());
+    assert!(rt; said.lines.as_slice() == [1, 2, 2].as_slice());
     Ok(())
 }

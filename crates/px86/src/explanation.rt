@@ -5,8 +5,8 @@ ghost use Rattle.px86.specs.Starts.{reads_input};
 use crate::outside::Outside;
 use crate::request::{Form, Input, Request};
 use commands::{Device, Fault, Refused, Status};
-use explanations::{Evidence, sentence};
-use json_texts::{Fields, put_text};
+use explanations::{Evidence, Explanation, Position, sentence};
+use json_texts::{Fields, put_number, put_text};
 use serde_json::{Value, put};
 use std::alloc::{AllocError, Global};
 
@@ -32,7 +32,41 @@ fn named_fields(alloc: Global, named: Option<&str>) -> Result<Fields, AllocError
     Ok(fields)
 }
 
-/// The object of a fault whose line has this number, this name and this place. The explanation is no text where none is asked for.
+/// The lines of an explanation, where one is asked for.
+fn lines_of(told: Option<&Explanation>) -> &str {
+    match told {
+        Some(told) => told.text.as_str(),
+        None => "",
+    }
+}
+
+/// Puts into an object where the fault of a text is, in numbers, and what to do.
+fn put_position(
+    fault: &mut Fields,
+    alloc: Global,
+    told: &Explanation,
+    at: Position,
+) -> Result<(), AllocError> {
+    put_number(fault, alloc, "line", at.line as u64)?;
+    put_number(fault, alloc, "column", at.column as u64)?;
+    put_number(fault, alloc, "length", at.length as u64)?;
+    put_text(fault, alloc, "hint", told.hint())
+}
+
+/// The fields of what explains a fault. It is no text where none is asked for.
+fn explained_fields(alloc: Global, told: Option<&Explanation>) -> Result<Fields, AllocError> {
+    let mut fault = Fields::new(alloc);
+    let lines = text_or_null(alloc, lines_of(told))?;
+    put(&mut fault, alloc, "explanation", lines)?;
+    if let Some(told) = told {
+        if let Some(at) = told.position {
+            put_position(&mut fault, alloc, told, at)?;
+        }
+    }
+    Ok(fault)
+}
+
+/// The object of a fault whose line has this number, this name and this place.
 fn fault_value(
     alloc: Global,
     named: Option<&str>,
@@ -40,15 +74,9 @@ fn fault_value(
     name: &str,
     place: &str,
     sentence: &str,
-    explanation: &str,
+    told: Option<&Explanation>,
 ) -> Result<Value, AllocError> {
-    let mut fault = Fields::new(alloc);
-    put(
-        &mut fault,
-        alloc,
-        "explanation",
-        text_or_null(alloc, explanation)?,
-    )?;
+    let mut fault = explained_fields(alloc, told)?;
     put_text(&mut fault, alloc, "number", number)?;
     put(&mut fault, alloc, "name", text_or_null(alloc, name)?)?;
     put(&mut fault, alloc, "place", text_or_null(alloc, place)?)?;
@@ -64,11 +92,11 @@ fn fault_object(
     named: Option<&str>,
     line: &str,
     sentence: &str,
-    explanation: &str,
+    told: Option<&Explanation>,
 ) -> Result<String, AllocError> {
     let (number, rest) = line.split_once(' ').unwrap_or((line, ""));
     let (name, place) = rest.split_once(' ').unwrap_or((rest, ""));
-    fault_value(alloc, named, number, name, place, sentence, explanation)?.to_string(alloc)
+    fault_value(alloc, named, number, name, place, sentence, told)?.to_string(alloc)
 }
 
 /// The object of a fault, with its sentence and what explains it.
@@ -76,10 +104,10 @@ fn object_of(
     alloc: Global,
     named: Option<&str>,
     fault: Fault,
-    explanation: &str,
+    told: Option<&Explanation>,
 ) -> Result<String, AllocError> {
     let line = format!(in alloc; "{fault}")?;
-    fault_object(alloc, named, line.as_str(), sentence(fault), explanation)
+    fault_object(alloc, named, line.as_str(), sentence(fault), told)
 }
 
 /// The object of what is said of a report that was written.
@@ -107,13 +135,14 @@ fn print_answer<R: Eprint>(
     alloc: Global,
     named: Option<&str>,
     answer: Result<Status, Fault>,
-    explanation: &str,
+    told: Option<&Explanation>,
 ) {
+    let lines = lines_of(told);
     match answer {
-        Err(fault) => print_object(rt, object_of(alloc, named, fault, explanation), fault),
-        Ok(_) if explanation.is_empty() => {}
+        Err(fault) => print_object(rt, object_of(alloc, named, fault, told), fault),
+        Ok(_) if lines.is_empty() => {}
         Ok(_) => {
-            if let Ok(object) = explanation_object(alloc, named, explanation) {
+            if let Ok(object) = explanation_object(alloc, named, lines) {
                 let _ = eprintln!(rt; "{object}");
             }
         }
@@ -128,10 +157,11 @@ pub(crate) fn report_answer<R: Eprint>(
     form: Form,
     named: Option<&str>,
     answer: Result<Status, Fault>,
-    explanation: &str,
+    told: Option<&Explanation>,
 ) {
+    let explanation = lines_of(told);
     match (form, answer) {
-        (Form::Json, _) => print_answer(rt, alloc, named, answer, explanation),
+        (Form::Json, _) => print_answer(rt, alloc, named, answer, told),
         (Form::Lines, Err(fault)) => {
             let _ = match named {
                 Some(file) => eprint!(rt; "px86: {file}: {fault}\n{explanation}"),
@@ -151,7 +181,7 @@ pub(crate) fn report_usage<R: Eprint>(rt: &R, alloc: Global, form: Form) {
         Form::Lines => {
             let _ = eprintln!(rt; "px86: {usage}");
         }
-        Form::Json => print_object(rt, fault_object(alloc, None, "usage", MISREAD, ""), usage),
+        Form::Json => print_object(rt, fault_object(alloc, None, "usage", MISREAD, None), usage),
     }
 }
 
@@ -215,14 +245,14 @@ pub(crate) fn explain_lack<O: Outside>(
     outside: &O,
     alloc: Global,
     request: &Request<'_>,
-) -> Result<String, AllocError> {
+) -> Result<Explanation, AllocError> {
     let mut text = String::new(alloc);
     match closed_stream(outside, request) {
         Some(closed) => writeln!(text, "{closed}")?,
         None => push_unread(&mut text, outside, request)?,
     }
     writeln!(text, "{}", sentence(Fault::Device(Device::Read)))?;
-    Ok(text)
+    Ok(Explanation::of_lines(text))
 }
 
 /// What a command read, where it is kept.
@@ -242,7 +272,7 @@ pub(crate) fn explain<O: Outside>(
     request: &Request<'_>,
     kept: KeptBytes<'_, '_>,
     answer: Result<Status, Fault>,
-) -> Result<String, AllocError> {
+) -> Result<Explanation, AllocError> {
     if let Err(Fault::Device(Device::Read)) = answer {
         return explain_lack(outside, alloc, request);
     }
@@ -255,8 +285,10 @@ pub(crate) fn explain<O: Outside>(
         asked: request.task,
     };
     match answer {
-        Ok(Status::Refused) => explanations::explain_refusal(alloc, &evidence),
-        Ok(_) => explanations::explain_answer(alloc, &evidence),
+        Ok(Status::Refused) => Ok(Explanation::of_lines(explanations::explain_refusal(
+            alloc, &evidence,
+        )?)),
+        Ok(_) => Ok(Explanation::of_lines(explanations::explain_answer(alloc, &evidence)?)),
         Err(fault) => explanations::explain(alloc, &evidence, fault),
     }
 }

@@ -31,9 +31,9 @@ pub(crate) fn status_of(answer: Result<Status, Fault>) -> u8
 fn report_ended<R: Eprint>(rt: &R, alloc: Global, request: &Request<'_>, ended: &Ended) {
     let form = request.form;
     match (&ended.explanation, ended.answer) {
-        (Ok(text), answer) => report_answer(rt, alloc, form, request.named, answer, text),
+        (Ok(told), answer) => report_answer(rt, alloc, form, request.named, answer, Some(told)),
         (Err(_), Err(fault)) => {
-            report_answer(rt, alloc, form, request.named, Err(fault), "");
+            report_answer(rt, alloc, form, request.named, Err(fault), None);
             if let Form::Lines = form {
                 let _ = eprintln!(rt; "{}", sentence(fault));
             }

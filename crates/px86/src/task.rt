@@ -15,6 +15,7 @@ use crate::progress::{Progress, Work};
 use crate::request::{Form, Input, Request};
 use crate::steps::Steps;
 use commands::{Device, Failed, Fault, Sink, Source, Status, Task};
+use explanations::Explanation;
 use json_jobs::JsonReports;
 use mend_jobs::{MendJob, Ways};
 use std::alloc::{AllocError, Global};
@@ -261,7 +262,7 @@ pub(crate) struct Ended {
     /// What it answered.
     pub answer: Result<Status, Fault>,
     /// What is said of that, where it is asked for; or memory for it ran out.
-    pub explanation: Result<String, AllocError>,
+    pub explanation: Result<Explanation, AllocError>,
 }
 
 /// A task that was not begun, as a stream is closed or a file cannot be opened.
@@ -271,7 +272,7 @@ fn lacking<O: Outside>(outside: &O, alloc: Global, request: &Request<'_>, explai
     let explanation = if explains {
         explain_lack(outside, alloc, request)
     } else {
-        Ok(String::new(alloc))
+        Ok(Explanation::of_lines(String::new(alloc)))
     };
     Ended {
         answer: Err(READ_FAILED),
@@ -293,7 +294,7 @@ fn explained<O: Outside>(
     let explanation = if explains {
         explain(outside, alloc, request, kept, answer)
     } else {
-        Ok(String::new(alloc))
+        Ok(Explanation::of_lines(String::new(alloc)))
     };
     Ended {
         answer,

@@ -1,4 +1,5 @@
 pub mod ReversedLists
 pub mod ItemSteps
 pub mod StatementSteps
+pub mod PlaceSteps
 pub mod FirstLines

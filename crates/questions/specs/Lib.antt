@@ -9,3 +9,4 @@ pub mod Questions
 pub mod Items
 pub mod Reading
 pub mod Conditions
+pub mod Places

@@ -48,11 +48,7 @@ fn end(alloc: Global, number: usize, body: Body) -> Result<Cond, OrNoMemory<Cond
 
 /// The condition that a text says by the items of a sheet.
 #[tactic(auto, using(crate::proofs::StatementSteps::statement_steps))]
-fn read_statement(
-    alloc: Global,
-    scope: &Scope,
-    text: &[u8],
-) -> Result<Cond, OrNoMemory<CondFault>>
+fn read_statement(alloc: Global, scope: &Scope, text: &[u8]) -> Result<Cond, OrNoMemory<CondFault>>
     ensures { Answers fault_in (statement_of scope.now text.now) result }
 {
     let mut body = Body::new(alloc);
@@ -72,11 +68,7 @@ fn read_statement(
 
 /// That a condition is true that a text says by the items of a sheet.
 #[tactic(auto, unfolding(crate::specs::Conditions::statement_asked))]
-fn ask_statement(
-    alloc: Global,
-    scope: &Scope,
-    text: &[u8],
-) -> Result<Cond, OrNoMemory<CondFault>>
+fn ask_statement(alloc: Global, scope: &Scope, text: &[u8]) -> Result<Cond, OrNoMemory<CondFault>>
     ensures { Answers fault_in (statement_asked scope.now text.now) result }
 {
     let condition = read_statement(alloc, scope, text)?;

@@ -146,7 +146,7 @@ impl Items {
 
     /// One more token of the item that goes on, on line `number`.
     #[tactic(auto, unfolding(crate::specs::Items::token_after))]
-    fn read_token(
+    pub(crate) fn read_token(
         &mut self,
         alloc: Global,
         number: usize,
@@ -162,7 +162,7 @@ impl Items {
 
     /// The first token of line `number`.
     #[tactic(auto, unfolding(crate::specs::Items::first_after))]
-    fn read_first(
+    pub(crate) fn read_first(
         &mut self,
         alloc: Global,
         number: usize,
@@ -216,7 +216,7 @@ impl Items {
 
     /// Line `number`.
     #[tactic(auto, unfolding(crate::specs::Items::line_after))]
-    fn read_line(
+    pub(crate) fn read_line(
         &mut self,
         alloc: Global,
         number: usize,

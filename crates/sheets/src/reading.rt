@@ -4,9 +4,11 @@ ghost use Rattle.outcomes.specs.Calls.{Answers};
 ghost use Rattle.outcomes.specs.Faults.{fault_in};
 ghost use Rattle.text_tokens.specs.Text.{tokens_of};
 ghost use Rattle.sheets.specs.Reading.{begins_sheet, is_sheet, object_told, sheet_read_of};
+ghost use Rattle.sheets.specs.Sheets.{read_of};
 
 use crate::items::Items;
 use crate::names::Names;
+use crate::said::Said;
 use crate::sheet::Sheet;
 use litmus_text::{LinedObject, TextFault, read_lined};
 use outcomes::OrNoMemory;
@@ -82,4 +84,15 @@ pub fn read_sheet(alloc: Global, text: &[u8]) -> Result<SheetRead, OrNoMemory<Te
         Err(OrNoMemory::Fault(fault)) => Err(OrNoMemory::Fault(sheet.fault_told(fault))),
         Err(OrNoMemory::NoMemory) => Err(OrNoMemory::NoMemory),
     }
+}
+
+/// The litmus text that a sheet says before a fault of its own, and of each of its lines the line of the sheet that says it.
+///
+/// # Errors
+///
+/// Out of memory.
+pub fn said_by(alloc: Global, text: &[u8]) -> Result<Said, AllocError>
+    ensures { IfOk result (λ said. said ≡ (read_of text.now).said) }
+{
+    Ok(Sheet::read(alloc, text)?.into_said())
 }

@@ -534,6 +534,13 @@ impl Sheet {
         &self.said.lines
     }
 
+    /// The litmus text, and the lines of the sheet that say its lines.
+    pub fn into_said(self) -> Said
+        ensures { result ≡ self.said }
+    {
+        self.said
+    }
+
     /// What its abbreviations stand for, and its questions.
     pub fn into_names(self) -> (Names, Items)
         ensures names { result.0 ≡ self.names }
