@@ -86,6 +86,7 @@ class Answer:
         finals = []
         for number, text in enumerate(self.texts, 1):
             text.number = number
+            self.ask(text)
             text.file = case.write(f"text{number}.litmus", text.litmus(case.places))
         # It takes a tenth of the time in which the command starts.
         from concurrent.futures import ThreadPoolExecutor
@@ -101,6 +102,14 @@ class Answer:
         word = emulator.replay(recording, self.texts, finals)
         if word is not None:
             raise Failed(f"px86 run of all comes to another memory than the program: the word at {word:#x} differs")
+
+    def ask(self, text: Text) -> None:
+        """Has a text end with the condition, as a question. Runs of a text of several threads have all orders of their stores, and it is
+        asked of one of these: so that has no question, and `ordered.litmus` has it."""
+        if self.case.condition is not None:
+            text.ask(self.case.condition)
+            if len(self.recording.threads) > 1:
+                text.items = []
 
     def play(self, text: Text) -> Played:
         """Has px86 play the script of a text, in a conversation."""

@@ -81,8 +81,8 @@ class Numbered:
 
     def question(self, word: int, given: Iterable[tuple[int, int]]) -> str:
         """The command by which a word is asked for where others have these values."""
-        others = [f"w{self.words[other]}={self.numbers[other][value]}" for other, value in given]
-        return " ".join([f"values w{self.words[word]}", *others])
+        others = [f"{name_of(self.words[other])}={self.numbers[other][value]}" for other, value in given]
+        return " ".join([f"values {name_of(self.words[word])}", *others])
 
     def values(self, word: int, given: Iterable[tuple[int, int]], answer: Iterable[int]) -> list[int]:
         """The values of the word, by the numbers that were answered."""
@@ -109,7 +109,7 @@ class Changes(Numbered):
         self.entries = tuple(Entry(0, number) for number in range(1, len(self.contents)))
 
     def question(self, word: int, given: Iterable[tuple[int, int]]) -> str:
-        return "values w0"
+        return f"values {name_of(0)}"
 
     def values(self, word: int, given: Iterable[tuple[int, int]], answer: Iterable[int]) -> list[int]:
         given = list(given)
@@ -120,27 +120,30 @@ class Changes(Numbered):
 # --- the text
 
 
+def name_of(word: int) -> str:
+    """A word by the number of its line, and of its place there."""
+    return f"w{word // MOST_WORDS}{word % MOST_WORDS}"
+
+
 def text_of_lines() -> str:
-    names = [[f"w{MOST_WORDS * line + place}" for place in range(MOST_WORDS)] for line in range(MOST_LINES)]
-    lines = ["litmus 1", "# lines of which any list is made pending, by the numbers `v` that are stored where `a` says"]
-    lines += [f"line {' '.join(words)}" for words in names]
-    lines += ["line a v", f"init a {FIRST_ADDRESS}"]
+    """The text, as a sheet: what is there several times stands in it once."""
+    first = f"&{name_of(0)}"
+    lines = ["sheet 1", "# lines of which any list is made pending, by the numbers `v` that are stored where `a` says"]
+    lines += [f"line * {MOST_LINES} w$[{MOST_WORDS}]", "line a v", f"init a {first}"]
     for words in ADDRESS_STEPS:
-        lines += looped(f"mov rcx, {8 * words}", "lock xadd [a], rcx")
-    lines += looped(f"mov rcx, {FIRST_ADDRESS}", "xchg [a], rcx")
+        lines += looped(1, f"mov rcx, {8 * words}", "lock xadd [a], rcx")
+    lines += looped(1, f"mov rcx, {first}", "xchg [a], rcx")
     for number in NUMBER_STEPS:
-        lines += looped(f"mov rcx, {number}", "lock xadd [v], rcx")
-    lines += looped("mov rcx, 0", "xchg [v], rcx")
-    for _ in FLUSHING:
-        lines += looped("mov rbx, [a]", "clflushopt [rbx]")
-    for _ in STORING:
-        lines += looped("mov rbx, [a]", "mov rax, [v]", "mov [rbx], rax")
+        lines += looped(1, f"mov rcx, {number}", "lock xadd [v], rcx")
+    lines += looped(1, "mov rcx, 0", "xchg [v], rcx")
+    lines += looped(len(FLUSHING), "mov rbx, [a]", "clflushopt [rbx]")
+    lines += looped(len(STORING), "mov rbx, [a]", "mov rax, [v]", "mov [rbx], rax")
     return "".join(line + "\n" for line in lines)
 
 
-def looped(*instructions: str) -> list[str]:
-    """A processor that does the same again and again."""
-    return ["cpu", "next:", *instructions, "jmp next", "end"]
+def looped(count: int, *instructions: str) -> list[str]:
+    """So many processors, each of which does the same again and again."""
+    return [f"cpu * {count}" if count > 1 else "cpu", "next:", *instructions, "jmp next", "end"]
 
 
 # --- its steps

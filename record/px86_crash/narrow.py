@@ -71,8 +71,9 @@ class Narrow:
         if leaf.state.part is None:
             return self.shown_of_threads(leaf, memory)
         text = self.text(leaf.state, self.shown_lines(leaf, memory))
-        text.file = self.case.write("bad.litmus", text.litmus(self.case.places))
         values = text.values_of(lambda word: leaf.state.value(word, memory))
+        text.ask_for(values)
+        text.file = self.case.write("bad.litmus", text.litmus(self.case.places))
         steps = self.case.write("bad.steps", "".join(step + "\n" for step in text.steps_to(0)))
         counted = text.contents or {}
         persisted = {word: 0 if word in counted else leaf.state.history.value(word, leaf.state.number) for word in text.words}
@@ -100,8 +101,9 @@ class Narrow:
     def shown_of_threads(self, leaf: Leaf, memory: dict[int, int]) -> Shown:
         """The same of several threads: of the list of choices that leaves this image."""
         text = text_of_threads(self.case.recording.only(leaf.lines), self.case.names, MOST_INSTRUCTIONS)
-        text.file = self.case.write("bad.litmus", text.litmus(self.case.places))
         values = [leaf.state.value(word, memory) for word in text.words]
+        text.ask_for(values)
+        text.file = self.case.write("bad.litmus", text.litmus(self.case.places))
         persisted = {word: text.initial.get(word, 0) for word in text.words}
         for look in range(len(text.looks)):
             steps = self.case.write("bad.steps", "".join(step + "\n" for step in text.steps_to(look)))

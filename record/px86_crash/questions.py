@@ -193,8 +193,9 @@ class Questions:
         """Asks of every run of the text that keeps the order of threads: stores may become visible later than they did."""
         case, say = self.case, self.report.say
         text = ordered_text(case.answer.texts[0], case.recording.with_locks)
+        asked = text.ask(self.options.all)
         file = case.write("ordered.litmus", text.litmus(case.places))
-        words = ("check", "--before-crash", "--all", self.options.all, file, "--no-steps")
+        words = ("check", "--before-crash", "--all", asked, file, "--no-steps")
         status, told, said = case.px86.report(*words, seconds=self.options.time)
         if status == 0:
             self.delays_were_asked = True

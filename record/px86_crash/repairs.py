@@ -177,11 +177,6 @@ def on_words(recording: Recording, operations: Iterable[Operation], words: Colle
     return matters([operation for operation in left if operation is not None and recording.is_used(operation)], keeps_locks=True)
 
 
-def conjunction(text: Text, values: Mapping[int, int]) -> str:
-    """The condition that words of a text have these values."""
-    return " and ".join(f"persisted {text.name(word)} = {value}" for word, value in values.items())
-
-
 Asks = Callable[[Recording, "Repairs"], Memory | None]
 
 
@@ -235,11 +230,11 @@ class Repairs:
         text = self.text_of(self.case.recording, refused, words)
         if text is None or not self.condition and not all(telling):
             return None
-        condition = self.condition or " and ".join(f"not ({conjunction(text, values)})" for values in telling)
+        asked = text.ask(self.condition) if self.condition else text.ask_for_none(telling)
         numbered = list(text.numbered(self.case.places))
         file = self.case.write("mend.litmus", "".join(line + "\n" for line, _ in numbered))
         puts = []
-        for instruction, number in self.case.px86.mend(file, condition, MOST_STATES, self.seconds):
+        for instruction, number in self.case.px86.mend(file, asked, MOST_STATES, self.seconds):
             behind = numbered[number - 1][1]
             # What marks the order of threads, or an acknowledgement, is none of the program's own.
             if not isinstance(behind, Operation) or instruction.startswith("cl") and behind.word < 0:
@@ -283,8 +278,9 @@ class Repairs:
         text = self.text(recording, 0, len(recording.with_locks), self.asked)
         if text is None:
             raise Late("the text of all of it is too large")
+        asked = text.ask(self.condition)
         file = self.case.write("mended.litmus", text.litmus(self.case.places))
-        words = ("check", "--before-crash", "--all", self.condition, file, "--no-steps")
+        words = ("check", "--before-crash", "--all", asked, file, "--no-steps")
         status = self.case.px86.report(*words, seconds=self.seconds)[0]
         if status not in (0, 1):
             raise Late("it is not known")

@@ -1,4 +1,5 @@
-"""A litmus text of recorded operations, and a script by which px86 lists the images of its memories."""
+"""A text of recorded operations, and a script by which px86 lists the images of its memories. It is a litmus text, or a sheet where it ends
+with what is asked of it, or has lists of values."""
 
 from __future__ import annotations
 
@@ -7,6 +8,7 @@ from dataclasses import dataclass, field
 from functools import cached_property
 from typing import TYPE_CHECKING
 
+from .items import ASKED, every_crash, is_question, is_short_enough, some_crash
 from .recording import ACKNOWLEDGED, FILE_ROOM, FILE_SIZE, LINE, Kind, Operation, first_word_of, is_of_file, line_of
 
 if TYPE_CHECKING:
@@ -82,8 +84,8 @@ class Look:
 
 @dataclass
 class Text:
-    """Operations as a litmus text. `persisted` has the words that are not as they were before the recording, at the text's
-    beginning; `contents` what a line has after each of its changes, where a word of the text counts these."""
+    """Operations as a text. `persisted` has the words that are not as they were before the recording, at the text's beginning; `contents`
+    what a line has after each of its changes, where a word of the text counts these."""
 
     operations: Sequence[Operation | Tick]
     threads: list[int]
@@ -99,6 +101,9 @@ class Text:
     # Its place among the texts of an answer, and its file.
     number: int = 0
     file: str = ""
+    # What is asked of it, as items behind its last processor. `is_plain`: it is to be a litmus text in any case.
+    items: list[str] = field(default_factory=list)
+    is_plain: bool = False
 
     def __post_init__(self) -> None:
         stored = {operation.word for operation in self.operations if isinstance(operation, Operation) and operation.stores}
@@ -153,21 +158,70 @@ class Text:
     def name(self, word: int) -> str:
         return numbered("l", word) if self.contents and word in self.contents else self.names.of(word)
 
+    # --- what is asked of it
+
+    def ask(self, condition: str) -> str:
+        """Has it end with the question whether a condition holds in each memory that a crash may leave. Answers by which condition px86
+        is asked this: by the name of the question. If the condition may be none it is asked as it is, of a litmus text: a sheet's
+        conditions have more forms, so px86 would not say the same of one that is wrong. A question stands behind a processor; of a run
+        that does nothing there is none."""
+        counted = self.contents or {}
+        names = [self.name(word) for word in self.words if word not in counted]
+        if not self.threads or not is_question(condition, names):
+            self.is_plain = True
+            return condition
+        self.items = [every_crash(condition)]
+        return ASKED
+
+    def ask_for_none(self, memories: Sequence[Mapping[int, int]]) -> str:
+        """The same of the condition that no crash leaves one of these memories, of which each has a name."""
+        left = [self.conjunction(values) for values in memories]
+        if not all(map(is_short_enough, left)):
+            # So many words are too many for any condition, of an option too.
+            return " and ".join(f"not ({values})" for values in left)
+        names = [f"left{number}" for number in range(1, len(left) + 1)]
+        self.items = [f"let {name} = {values}" for name, values in zip(names, left)]
+        self.items.append(every_crash(" and ".join(f"not {name}" for name in names)))
+        return ASKED
+
+    def ask_for(self, values: Sequence[int]) -> None:
+        """Has it end with the question whether a crash may leave this image; with none if the image has too many words for an item."""
+        left = self.conjunction(dict(zip(self.words, values)))
+        self.items = [some_crash(left)] if is_short_enough(left) else []
+
+    def conjunction(self, values: Mapping[int, int]) -> str:
+        """The condition that words have these values."""
+        return " and ".join(f"persisted {self.name(word)} = {value}" for word, value in values.items())
+
+    # --- its lines
+
     def litmus(self, places: Places) -> str:
         return "".join(line + "\n" for line, _ in self.numbered(places))
 
+    def initial_lists(self) -> list[list[int]]:
+        """The words of each line that are not 0 at first, with those between them."""
+        lists = []
+        for words in self.lines.values():
+            places = [place for place, word in enumerate(words) if self.initial.get(word)]
+            if places:
+                lists.append(words[places[0] : places[-1] + 1])
+        return lists
+
     def numbered(self, places: Places) -> Iterator[tuple[str, Operation | Tick | None]]:
-        """Its lines, each with the operation that it is of."""
-        yield "litmus 1", None
+        """Its lines, each with the operation that it is of. One that says nothing which only a sheet may say is a litmus text."""
+        lists = self.initial_lists()
+        is_sheet = not self.is_plain and (bool(self.items) or any(len(words) > 1 for words in lists))
+        if not is_sheet:
+            lists = [[word] for words in lists for word in words if self.initial.get(word)]
+        yield f"{'sheet' if is_sheet else 'litmus'} 1", None
         yield f"# {self.head}", None
         for line, words in self.lines.items():
             comment = "" if line < 0 else f"   # offset {first_word_of(line, self.grain):#x}"
             if self.contents and words[0] in self.contents:
                 comment += ": how many changes of the line have persisted"
             yield f"line {' '.join(map(self.name, words))}{comment}", None
-        for word in self.words:
-            if self.initial.get(word):
-                yield f"init {self.name(word)} {self.initial[word]}", None
+        for words in lists:
+            yield f"init {self.name(words[0])} {' '.join(str(self.initial.get(word, 0)) for word in words)}", None
         for thread in self.threads:
             yield "cpu", None
             for operation in self.operations:
@@ -175,6 +229,8 @@ class Text:
                     for line_of_it in self.instruction(operation, places):
                         yield line_of_it, operation
             yield "end", None
+        for item in self.items:
+            yield item, None
 
     def instruction(self, operation: Operation | Tick, places: Places) -> list[str]:
         """The lines of an operation, with its place in the source."""

@@ -6,7 +6,7 @@ import os
 import random
 import sys
 import unittest
-from collections.abc import Sequence
+from collections.abc import Iterable, Iterator, Sequence
 from dataclasses import replace
 from typing import Any
 from unittest import mock
@@ -195,9 +195,14 @@ def operations_of(entries: Sequence[Entry]) -> list[Operation]:
 def answered(memories: Sequence[dict[int, int]], question: str) -> list[int]:
     """The values of a word in the memories in which others have theirs."""
     _, word, *given = question.split(" ")
-    wanted = [(8 * int(name[1:]), int(number)) for name, number in (equation.split("=") for equation in given)]
-    found = {memory[8 * int(word[1:])] for memory in memories if all(memory[other] == number for other, number in wanted)}
+    wanted = [(offset_of(name), int(number)) for name, number in (equation.split("=") for equation in given)]
+    found = {memory[offset_of(word)] for memory in memories if all(memory[other] == number for other, number in wanted)}
     return sorted(found)
+
+
+def offset_of(name: str) -> int:
+    """Where the word of a name stands: the last digit is its place on its line, and the digits before that are its line's number."""
+    return 64 * int(name[1:-1]) + 8 * int(name[-1])
 
 
 def drawn_entry(generator: random.Random) -> Entry:
@@ -221,14 +226,14 @@ class Played:
     """The processors of the text, as docs/MODEL.md has them: what is pending behind some steps."""
 
     def __init__(self, text: str, steps: Sequence[str]) -> None:
-        lines = [line.split("#")[0].replace(",", " ").split() for line in text.splitlines()]
+        lines = list(each_copy(line.split("#")[0].replace(",", " ").split() for line in text.splitlines()))
         words = [word for line in lines if line[:1] == ["line"] for word in line[1:]]
         self.address = {f"[{word}]": 0x1000 + 8 * (8 * row + place) for row, place, word in self.placed(lines)}
         self.memory = dict.fromkeys(self.address.values(), 0)
         self.programs: list[list[list[str]]] = []
         for line in lines:
             if line[:1] == ["init"]:
-                self.memory[self.address[f"[{line[1]}]"]] = int(line[2])
+                self.memory[self.address[f"[{line[1]}]"]] = self.number(line[2])
             elif line[:1] == ["cpu"]:
                 self.programs.append([])
             elif line and self.programs and line != ["end"] and line[0] != "next:":
@@ -278,7 +283,7 @@ class Played:
             self.buffers[processor].append((self.meant(registers, operands[0]), registers[operands[1]]))
         elif name == "mov":
             is_load = operands[1].startswith("[")
-            registers[operands[0]] = self.coherent(self.meant(registers, operands[1])) if is_load else int(operands[1])
+            registers[operands[0]] = self.coherent(self.meant(registers, operands[1])) if is_load else self.number(operands[1])
         elif name == "clflushopt":
             self.buffers[processor].append((self.meant(registers, operands[0]), None))
         elif name in ("xadd", "xchg"):
@@ -293,6 +298,29 @@ class Played:
 
     def meant(self, registers: dict[str, int], operand: str) -> int:
         return registers[operand.strip("[]")] if operand not in self.address else self.address[operand]
+
+    def number(self, token: str) -> int:
+        """A number, or the address of a word."""
+        return self.address[f"[{token[1:]}]"] if token.startswith("&") else int(token)
+
+
+def each_copy(lines: Iterable[list[str]]) -> Iterator[list[str]]:
+    """The lines of a litmus text that a sheet says, as docs/FORMATS.md has it: those of `line * N NAME$[K]` and of `cpu * N` N times."""
+    block: list[list[str]] = []
+    for line in lines:
+        if line[:2] == ["line", "*"]:
+            name, count = line[3].rstrip("]").split("[")
+            for copy in range(int(line[2])):
+                yield ["line", *(f"{name.replace('$', str(copy))}{place}" for place in range(int(count)))]
+        elif line[:1] == ["cpu"] or block:
+            block.append(line)
+            if line == ["end"]:
+                for _ in range(int(block[0][2]) if len(block[0]) > 1 else 1):
+                    yield ["cpu"]
+                    yield from block[1:]
+                block = []
+        else:
+            yield line
 
 
 if __name__ == "__main__":

@@ -114,7 +114,9 @@ class Looking(unittest.TestCase):
     def setUp(self) -> None:
         self.operations = [store(0x0, 1, "1"), flush(0x0, "2"), store(0x40, 1, "3"), flush(0x40, "4"), fence("5")]
         self.bad = Memory({0x0: 0, 0x40: 1}, self.operations)
-        self.asked: list[tuple[str, list[str]]] = []
+        # The items of each text of which px86 mend is asked, and what is recorded with what it puts in.
+        self.asked: list[tuple[list[str], list[str]]] = []
+        self.items: list[str] = []
 
     def look(self, mends: Sequence[list[tuple[str, int]]], said: Sequence[Memory | None | Failed], condition: str = "") -> Report:
         """Looks for a repair: what px86 mend says, and then which memory the checker refuses, one after another."""
@@ -128,7 +130,8 @@ class Looking(unittest.TestCase):
             return verdict
 
         def mend_by_px86(file: str, condition: str, states: int, seconds: float) -> list[tuple[str, int]]:
-            self.asked.append((condition, []))
+            self.assertEqual(condition, "asked")
+            self.asked.append((self.items, []))
             return next(mend)
 
         case: Any = SimpleNamespace(
@@ -146,14 +149,16 @@ class Looking(unittest.TestCase):
 
     def text_is(self, text: str) -> str:
         lines = [line.partition("#")[0].strip() for line in text.splitlines()]
-        self.assertEqual(lines[5:10], ["mov [w0], 1", "clwb [w0]", "mov [w40], 1", "clwb [w40]", "sfence"])
+        self.assertEqual(lines[:5], ["sheet 1", "", "line w0", "line w40", "cpu"])
+        self.assertEqual(lines[5:11], ["mov [w0], 1", "clwb [w0]", "mov [w40], 1", "clwb [w40]", "sfence", "end"])
+        self.items = lines[11:]
         return "mend.litmus"
 
     def test_what_is_accepted(self) -> None:
         report = self.look([[("sfence", 7)]], [None])
         accepted = "  repair: an sfence behind a.c:2: with it the checker accepts all that a crash may leave of this run"
         self.assertEqual(report.lines, [accepted])
-        self.assertEqual(self.asked[0][0], "not (persisted w0 = 0 and persisted w40 = 1)")
+        self.assertEqual(self.asked[0][0], ["let left1 = persisted w0 = 0 and persisted w40 = 1", "every crash asked: not left1"])
         self.assertEqual(self.asked[0][1], ["mov 0", "clwb 0", "sfence", "mov 40", "clwb 40", "sfence"])
         self.assertEqual(
             report.facts["repair"],
@@ -169,8 +174,8 @@ class Looking(unittest.TestCase):
         other = Memory({0x0: 1, 0x40: 7}, self.operations)
         report = self.look([[("sfence", 7)], [("clwb", 6), ("sfence", 6)]], [other, None])
         self.assertIn("a clwb of w0 and an sfence behind a.c:1: with it the checker accepts", report.lines[0])
-        first, second = "persisted w0 = 0 and persisted w40 = 1", "persisted w40 = 7 and persisted w0 = 1"
-        self.assertEqual(self.asked[1][0], f"not ({first}) and not ({second})")
+        first, second = "let left1 = persisted w0 = 0 and persisted w40 = 1", "let left2 = persisted w40 = 7 and persisted w0 = 1"
+        self.assertEqual(self.asked[1][0], [first, second, "every crash asked: not left1 and not left2"])
 
     def test_another_memory_is_not(self) -> None:
         report = self.look([[("sfence", 7)], []], [Memory({0x0: 2, 0x40: 1}, [])])
@@ -191,7 +196,7 @@ class Looking(unittest.TestCase):
 
     def test_a_condition(self) -> None:
         report = self.look([[("sfence", 7)]], [None], "persisted w40 = 0 or persisted w0 = 1")
-        self.assertEqual(self.asked[0][0], "persisted w40 = 0 or persisted w0 = 1")
+        self.assertEqual(self.asked[0][0], ["every crash asked: persisted w40 = 0 or persisted w0 = 1"])
         self.assertIn("with it the condition holds in all that a crash may leave of this run", report.lines[0])
         self.assertEqual(self.look([[("sfence", 7)]], [Memory({}, ())], "persisted w0 = 1").lines, [])
 
