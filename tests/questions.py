@@ -414,6 +414,15 @@ def of_an_object(px86: Px86) -> Checks:
     yield "asked", wrong_run(px86("check", px86.keep("object", code.written)), 1, "nothing asked\n")
 
 
+def says_once(px86: Px86) -> Checks:
+    """Where there are too many states, it is said once how many were found, also if questions were asked together before."""
+    text = f"{PROGRAM}every crash one: persisted x <= 1\nevery crash two: persisted x <= 2\nevery recovery three: persisted x <= 3\n"
+    done = px86("check", "--states", "1", px86.keep("three.litmus", text))
+    found = re.findall(r"^px86: [1-9]\d* states were found and .*\n", done.err, re.M)
+    yield "", unlike((done.status, done.out, done.err), (5, "", "".join(found) + "px86: R1 TooManyStates\n"))
+    yield "how often", unlike(len(found), 1)
+
+
 # --- examples
 
 
@@ -447,6 +456,7 @@ def cases() -> Iterator[Case]:
     yield from of_options()
     yield from of_files()
     yield Case("an object", of_an_object)
+    yield Case("too many states, of several questions", says_once)
     for first in range(0, SHEETS, OF_A_CASE):
         yield Case(f"sheets {first} to {first + OF_A_CASE - 1}", random_sheets, first)
     yield Case("what is made", what_is_made)

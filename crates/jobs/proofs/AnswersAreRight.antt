@@ -22,7 +22,6 @@ use Rattle.explore.specs.Ends.{IsEndOf, holds_at}
 use Rattle.explore.specs.Findings.{Findings}
 use Rattle.explore.specs.Outcomes.{AreOutcomes, outcome_of}
 use Rattle.explore.specs.Questions.{AreFindings, FailsBy, IsAnswered, IsBroken, IsFalseEnd, IsVerdict}
-use Rattle.explore.specs.Reachable.{IsReachable}
 use Rattle.commands.specs.declared.jobs.QuestionOptions.{QuestionOptions}
 use Rattle.jobs.specs.declared.explained.Explained.{Explained}
 use Rattle.jobs.specs.declared.question_answer.Answered.{Answered}
@@ -165,12 +164,12 @@ asks_of places.Crash crashes f = refl
 asks_of places.End crashes f = refl
 asks_of places.Recovery crashes f = refl
 
-pub asked_by_place : (options : QuestionOptions) (start : Start) (q : NamedQuestion) (met : Bool) → side_of q ≡ None
-    → Tells met (IsAskedAt q.place (question_of (may_crash options) q).crashes None start.machine) → IsAskedSaid options start q (Ok met)
-asked_by_place options start q met none told =
+pub asked_by_place : (options : QuestionOptions) (start : Start) (q : NamedQuestion) (asked : Question) (met : Bool) → side_of q ≡ None
+    → asked.crashes ≡ crashes_to q.place (may_crash options) → Tells met (IsAskedAt q.place asked.crashes None start.machine) → IsAskedSaid options start q (Ok met)
+asked_by_place options start q asked met none crashing told =
     let crashes = crashes_to q.place (may_crash options) in
     subst (λ (s : Option Formula). Tells met (IsAskedAt q.place crashes s start.machine)) (sym none)
-    (subst (λ (c : Bool). Tells met (IsAskedAt q.place c None start.machine)) (asks_of q.place crashes (kept_formula q)) told)
+    (subst (λ (c : Bool). Tells met (IsAskedAt q.place c None start.machine)) crashing told)
 
 pub no_side_without_left : (q : NamedQuestion) → q.left ≡ None → side_of q ≡ None
 no_side_without_left q none = no_side q.every q.left none
@@ -189,11 +188,11 @@ so_everywhere places.Crash crashes f start answered = answered.all f refl
 so_everywhere places.End crashes f start answered = answered.ends f refl
 so_everywhere places.Recovery crashes f start answered = answered.recovered f refl
 
-held_so : (crashes : Bool) (start : State) (q : NamedQuestion) (every asked : Bool) → q.every ≡ every → asking.IsAskedThere crashes q → IsAnswered (question_of crashes q) start
+held_so : (crashes : Bool) (start : State) (q : NamedQuestion) (every asked : Bool) → q.every ≡ every → asking.IsAskedThere crashes q → asking.IsSoEverywhere crashes start q
     → Tells asked (IsAskedOfSome crashes start q) → asking.IsAnswer crashes start q (held_answer every asked)
-held_so crashes start q every false is there answered told = (there, so_everywhere q.place (crashes_to q.place crashes) (kept_formula q) start answered, told)
-held_so crashes start q true true is there answered told = (is, so_everywhere q.place (crashes_to q.place crashes) (kept_formula q) start answered, told)
-held_so crashes start q false true is there answered told = (is, so_everywhere q.place (crashes_to q.place crashes) (kept_formula q) start answered, told)
+held_so crashes start q every false is there so told = (there, so, told)
+held_so crashes start q true true is there so told = (is, so, told)
+held_so crashes start q false true is there so told = (is, so, told)
 
 held_told : (options : QuestionOptions) (start : Start) (q : NamedQuestion) (told : Explained) (every asked : Bool) → asking.IsToldWhy options start q told (held_answer every asked)
 held_told options start q told every false = tt
@@ -211,12 +210,12 @@ has_answer options start q answer one is same right told = (
   },
 )
 
-pub held_is_told : (options : QuestionOptions) (start : Start) (q : NamedQuestion) (asked : Bool) (one : Answered) (limit : ℕ) (found : Findings) → one.question ≡ q
+pub held_is_told : (options : QuestionOptions) (start : Start) (q : NamedQuestion) (asked : Bool) (one : Answered) → one.question ≡ q
     → one.answer ≡ held_answer q.every asked → Tells asked (IsAskedOfSome (may_crash options) start.machine q)
-    → asking.IsAskedThere (may_crash options) q → AreFindings (question_of (may_crash options) q) start.machine limit found → IsToldOne options start q (Ok one)
-held_is_told options start q asked one limit found is same told there are =
+    → asking.IsAskedThere (may_crash options) q → asking.IsSoEverywhere (may_crash options) start.machine q → IsToldOne options start q (Ok one)
+held_is_told options start q asked one is same told there so =
     has_answer options start q (held_answer q.every asked) one is same
-    (held_so (may_crash options) start.machine q q.every asked refl there are.answered told) (held_told options start q one.told q.every asked)
+    (held_so (may_crash options) start.machine q q.every asked refl there so told) (held_told options start q one.told q.every asked)
 
 broken_so : (crashes : Bool) (start : State) (q : NamedQuestion) (failure : Failure) (every : Bool) → q.every ≡ every → asking.IsBrokenBy crashes start q failure
     → asking.IsAnswer crashes start q (broken_answer every failure)
@@ -254,9 +253,13 @@ untold_by options start q fault asks is = inl (subst (λ (question : Question). 
 pub holds_is_told : (options : QuestionOptions) (start : Start) (q : NamedQuestion) (found : Findings) (result : Result Answered ExploreFault) → start.question ≡ question_of (may_crash options) q
     → IsVerdict start.question start.machine options.states (Ok (verdicts.Holds found))
     → asking.IsAskedThere (may_crash options) q
-    → (asking.IsAskedThere (may_crash options) q → (limit : ℕ) → AreFindings (question_of (may_crash options) q) start.machine limit found → IsToldOne options start q result)
+    → (asking.IsAskedThere (may_crash options) q → asking.IsFoundOf options start q found → IsToldOne options start q result)
     → IsToldOne options start q result
-holds_is_told options start q found result asks is there told = told there options.states (subst (λ (question : Question). AreFindings question start.machine options.states found) asks is)
+holds_is_told options start q found result asks is there told =
+    let crashes = crashes_to q.place (may_crash options) in
+    let are = subst (λ (question : Question). AreFindings question start.machine options.states found) asks is in
+    told there
+    (so_everywhere q.place crashes (kept_formula q) start.machine are.answered, (question_of (may_crash options) q, options.states, asks_of q.place crashes (kept_formula q), are))
 
 pub fails_is_told : (options : QuestionOptions) (start : Start) (q : NamedQuestion) (failure : Failure) (result : Result Answered ExploreFault) → start.question ≡ question_of (may_crash options) q
     → IsVerdict start.question start.machine options.states (Ok (verdicts.Fails failure))

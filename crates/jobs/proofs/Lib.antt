@@ -15,4 +15,5 @@ pub mod ExplainedRuns
 pub mod FailingPlaces
 pub mod AnswersAreRight
 pub mod QuestionsInTurn
+pub mod QuestionsJoin
 pub mod QuestionsReported

@@ -1,11 +1,11 @@
 -- The questions of a program, and the answer to each.
 -- Read it from `IsAnswer`, and then what a question asks of every state (`kept_formula`) and when it is asked of some (`IsAskedOfSome`).
-use Rattle.std.specs.Prelude.{⊤, ◌≡◌, ◌⊎◌, ℕ, Bool, true, false, not, ◌&&◌, if◌then◌else◌, Option, Some, None, option_copied, option_map, Result, Ok, Err, List, [], ◌∷◌, ◌++◌, All, bytes_eq, map}
+use Rattle.std.specs.Prelude.{⊤, ◌≡◌, ◌⊎◌, ℕ, Bool, true, false, not, ◌&&◌, if◌then◌else◌, Option, Some, None, option_copied, option_map, Result, Ok, Err, List, [], ◌∷◌, ◌++◌, All, bytes_eq, map, IfSome}
 use Rattle.std.specs.List.{filter}
 use Rattle.std.specs.Option.{option_map_or}
 use Rattle.lines_layout.specs.Names.{Text}
 use Rattle.machine.specs.State.{State}
-use Rattle.conditions.specs.Formulas.{Formula, Not}
+use Rattle.conditions.specs.Formulas.{Formula, And, Not}
 use Rattle.conditions.specs.Statements.{stated}
 use Rattle.images.specs.Images.{IsImage}
 use Rattle.images.specs.Truth.{holds_on}
@@ -19,7 +19,8 @@ use Rattle.explore.specs.declared.verdict.Failure.{Failure}
 use Rattle.explore.specs.declared.verdict.Verdict.{Verdict}
 use Rattle.explore.specs.declared.verdict.Verdict.TheVariants as verdicts
 use Rattle.explore.specs.Ends.{IsEndOf, IsTrueAtEnds, is_met}
-use Rattle.explore.specs.Questions.{FailsBy, IsVerdict}
+use Rattle.explore.specs.Findings.{Findings}
+use Rattle.explore.specs.Questions.{AreFindings, FailsBy, IsVerdict}
 use Rattle.explore.specs.Reachable.{IsAlwaysKept, IsReachable}
 use Rattle.commands.specs.declared.fault.Refused.{Refused}
 use Rattle.commands.specs.declared.fault.Refused.TheVariants.{Usage}
@@ -31,9 +32,10 @@ use Rattle.jobs.specs.declared.explained.Explained.{Explained}
 use Rattle.jobs.specs.declared.question_answer.Answered.{Answered}
 use Rattle.jobs.specs.declared.question_answer.QuestionAnswer.{QuestionAnswer}
 use Rattle.jobs.specs.declared.question_answer.QuestionAnswer.TheVariants as answers
+use Rattle.jobs.specs.declared.questions_joined.Together.{Together}
 use Rattle.jobs.specs.declared.start.Start.{Start}
 use Rattle.jobs.specs.CheckReports.{Explains}
-use Rattle.jobs.specs.Starts.{given_work, no_condition, start_on, IsReady}
+use Rattle.jobs.specs.Starts.{given_work, no_condition, start_on}
 
 -- ---- what is asked
 
@@ -198,6 +200,80 @@ held_answer false true = answers.Nowhere
 abbrev pub broken_answer : Bool → Failure → QuestionAnswer
 broken_answer true failure = answers.Fails failure
 broken_answer false failure = answers.Found failure
+
+-- ---- questions that are asked together
+
+abbrev pub is_place : Place → Place → Bool
+is_place places.Crash places.Crash = true
+is_place places.End places.End = true
+is_place places.Recovery places.Recovery = true
+is_place _ _ = false
+
+-- whether a question is asked of every state of a place
+abbrev pub is_of_every : Place → NamedQuestion → Bool
+is_of_every place q = q.every && is_place place q.place
+
+-- one more formula that is to be so
+abbrev pub joined : Option Formula → Formula → Option Formula
+joined None f = Some f
+joined (Some before) f = Some (And before f)
+
+-- the same of what a question asks, if it is asked of every state of a place
+abbrev pub joined_by : Place → Option Formula → NamedQuestion → Option Formula
+joined_by place before q = if is_of_every place q then joined before (stated true q.condition) else before
+
+-- what questions ask of every state of a place, behind other formulas
+abbrev pub joined_all : Place → Option Formula → List NamedQuestion → Option Formula
+joined_all place before [] = before
+joined_all place before (q ∷ questions) = joined_all place (joined_by place before q) questions
+
+-- all that questions ask of every state of a place
+abbrev pub kept_together : Place → List NamedQuestion → Option Formula
+kept_together place questions = joined_all place None questions
+
+-- what is asked of all runs for the questions of crashes, and of ends behind one
+abbrev pub crash_question : Bool → List NamedQuestion → Question
+crash_question crashes questions = record {
+  crashes = crashes;
+  all = kept_together places.Crash questions;
+  ends = None;
+  recovered = kept_together places.Recovery questions;
+  images = false;
+}
+
+-- the same for those of ends before a crash
+abbrev pub end_question : List NamedQuestion → Question
+end_question questions = record { crashes = false; all = None; ends = kept_together places.End questions; recovered = None; images = false }
+
+-- What a question asks is so of all runs, and this is found of them.
+abbrev pub IsFoundOf : QuestionOptions → Start → NamedQuestion → Findings → Type 0
+IsFoundOf options start q found =
+    IsSoEverywhere (may_crash options) start.machine q
+    × ((asked : Question) × (limit : ℕ) × (asked.crashes ≡ crashes_to q.place (may_crash options)) × AreFindings asked start.machine limit found)
+
+-- What is found of all runs, if anything is, is found by what the questions of crashes, and of ends behind one, ask together.
+abbrev pub AreOfCrashes : QuestionOptions → Start → List NamedQuestion → Option Findings → Type 0
+AreOfCrashes options start questions found = IfSome found (AreFindings (crash_question (may_crash options) questions) start.machine options.states)
+
+-- The same for those of ends before a crash.
+abbrev pub AreOfEnds : QuestionOptions → Start → List NamedQuestion → Option Findings → Type 0
+AreOfEnds options start questions found = IfSome found (AreFindings (end_question questions) start.machine options.states)
+
+-- What is found for questions together is found of all runs by what they ask together.
+pub record AreTogether (options : QuestionOptions) (start : Start) (questions : List NamedQuestion) (together : Together) : Type 0 where
+  pub crashes : AreOfCrashes options start questions together.crashes
+  pub ends : AreOfEnds options start questions together.ends
+
+-- what is found together for questions of a place
+abbrev pub found_at : Place → Together → Option Findings
+found_at places.Crash together = together.crashes
+found_at places.End together = together.ends
+found_at places.Recovery together = together.crashes
+
+-- What is found together is found of a question, if that is asked of every state.
+abbrev pub HoldsTogether : QuestionOptions → Start → NamedQuestion → Together → Type 0
+HoldsTogether options start q together =
+    (found : Findings) → q.every ≡ true → IsAskedThere (may_crash options) q → found_at q.place together ≡ Some found → IsFoundOf options start q found
 
 -- ---- all of them
 

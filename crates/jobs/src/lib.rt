@@ -40,6 +40,7 @@ mod question_asked;
 mod question_lines;
 mod question_report;
 mod questions_asked;
+mod questions_joined;
 mod replay;
 mod report;
 mod run;

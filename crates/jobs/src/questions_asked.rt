@@ -4,7 +4,7 @@ ghost use Rattle.std.specs.Result.{result_map_both};
 ghost use Rattle.machine.specs.State.{State};
 ghost use Rattle.explore.specs.declared.question.Question.{Question};
 ghost use Rattle.explore.specs.Questions.{AreFindings, FailsBy, IsVerdict};
-ghost use Rattle.jobs.specs.Questions.{asking_of, broken_answer, held_answer, is_failure, may_crash, question_of, run_options, AreTold, IsAskedAt, IsAskedSaid, IsAskedThere, IsToldOfLeft, IsToldOne, Tells};
+ghost use Rattle.jobs.specs.Questions.{asking_of, broken_answer, crashes_to, held_answer, is_failure, may_crash, question_of, run_options, AreTold, HoldsTogether, IsAskedAt, IsAskedSaid, IsAskedThere, IsFoundOf, IsToldOfLeft, IsToldOne, Tells};
 ghost use Rattle.jobs.specs.QuestionReports.{IsFound};
 ghost use Rattle.jobs.specs.Starts.{IsReady};
 
@@ -12,6 +12,7 @@ use crate::explained::{Explained, explanation_of};
 use crate::form::Answer;
 use crate::question_answer::{Answered, QuestionAnswer, QuestionsFound, answers_status};
 use crate::question_asked::{left_question, question_of};
+use crate::questions_joined::Together;
 use crate::start::Start;
 use crate::verdict::fault_of;
 use commands::{CheckOptions, Fault, QuestionOptions};
@@ -98,8 +99,8 @@ fn is_asked<G: Gate>(
     gate: &G,
 ) -> Result<bool, ExploreFault>
     requires { IsReady start.now.machine }
-    ensures { (limit : ℕ) → AreFindings (question_of (may_crash options.now) question.now) start.now.machine limit found.now
-        → IsAskedSaid options.now start.now question.now result }
+    ensures { (asked : Question) (limit : ℕ) → asked.crashes ≡ crashes_to question.now.place (may_crash options.now)
+        → AreFindings asked start.now.machine limit found.now → IsAskedSaid options.now start.now question.now result }
 {
     match &question.left {
         Some(left) if question.every => { is_left_met(alloc, options, start, question, left, gate) }
@@ -147,8 +148,8 @@ fn held<G: Gate>(
     gate: &G,
 ) -> Result<Answered, ExploreFault>
     requires { IsReady start.now.machine }
-    ensures { IsAskedThere (may_crash options.now) question → (limit : ℕ)
-        → AreFindings (question_of (may_crash options.now) question) start.now.machine limit found.now → IsToldOne options.now start.now question result }
+    ensures { IsAskedThere (may_crash options.now) question → IsFoundOf options.now start.now question found.now
+        → IsToldOne options.now start.now question result }
 {
     let is_asked = is_asked(alloc, options, start, &question, found, gate)?;
     let answer = held_answer(question.every, is_asked);
@@ -214,15 +215,22 @@ fn answer_one<G: Gate>(
     options: &QuestionOptions<'_>,
     start: &mut Start,
     question: NamedQuestion,
+    together: &Together,
     gate: &G,
 ) -> Result<Answered, ExploreFault>
-    requires { IsReady start.old.machine }
+    requires ready { IsReady start.old.machine }
+    requires together { HoldsTogether options.now start.old question together.now }
     ensures kept { start.new ≡ asking_of start.new.question start.old }
     ensures told { IsToldOne options.now start.old question result }
 {
     let crashes = may_crash(options);
     if question.place == Place::Recovery && !crashes {
         return Ok(plain(alloc, question, QuestionAnswer::NotAsked));
+    }
+    if question.every {
+        if let Some(found) = together.found_at(question.place) {
+            return held(alloc, options, start, question, found, gate);
+        }
     }
     start.question = question_of(alloc, crashes, &question)?;
     gate.begun(options.states);
@@ -251,8 +259,9 @@ fn answer_all<G: Gate>(
     ensures told { AreTold options.now start.old questions.items (result_map_both (λ v. v.items) (λ fault. fault) result) }
 {
     let mut answers = Vec::new(alloc);
+    let together = Together::of(alloc, options, start, &questions, gate)?;
     for question in questions {
-        let one = answer_one(alloc, options, start, question, gate)?;
+        let one = answer_one(alloc, options, start, question, &together, gate)?;
         keep(&mut answers, one)?;
     }
     Ok(answers)

@@ -2,7 +2,6 @@ use Rattle.std.proofs.Common.{◌≡◌}
 use Rattle.std.specs.Prelude.{vec_items}
 use Rattle.std.specs.Vec.Iter.{into_iter_items}
 use Rattle.jobs.specs.Questions.{asking_of}
-use Rattle.jobs.specs.Starts.{IsReady}
 use Rattle.jobs.proofs.QuestionsInTurn.{AreSoFar}
 use Rattle.jobs.proofs.questions_asked.answer_all.Given as goal
 

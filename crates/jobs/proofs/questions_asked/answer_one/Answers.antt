@@ -13,4 +13,4 @@ returns-clause-told g c =
     ] in
     let now : Start = record c.args.start.now { question = c.in_ok-start.field-0 } in
     let asks = c.in_ok-start.ensures ∙ ap (λ (crashes : Bool). question_of crashes c.args.question) c.may_crash-crashes.ensures in
-    told_from c.args.options.now c.args.start.now now c.args.question c.answer_by.result refl (c.answer_by.ensures there asks (c.in_ok-verdict.ensures c.requires.sound))
+    told_from c.args.options.now c.args.start.now now c.args.question c.answer_by.result refl (c.answer_by.ensures there asks (c.in_ok-verdict.ensures c.requires.ready.sound))
