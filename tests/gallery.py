@@ -10,6 +10,7 @@ Each example is a file NAME.litmus, with a row in examples/README.md, and beside
   NAME.check    a command of px86 that asks of every run, and its report without the line `states`. Where a condition fails
                 there is a line for each state that may be told: the program has one of them, and steps that lead there
   NAME.outcomes a command of px86 and its report: each end of a program without a recovery
+  NAME.asked    of a sheet: its questions, and their answers (tests/questions.py)
 
 No expected text was taken from the program: reports of `images`, `check`, `outcomes` and of hunts that find a schedule were
 made by the second model. That hunts of the others answer `none` follows from NAME.ends. What the literature allows is in an

@@ -35,7 +35,7 @@ NEEDS_PROGRAM = True
 # How many random sheets there are, how many a case has, how often each is damaged; and how many states the model tells apart at most.
 SHEETS, OF_A_CASE, DAMAGES, MOST_STATES = 144, 12, 8, 700
 AT_LEAST = {
-    "": 5600,
+    "": 5790,
     "sheets *: fails": 250,
     "sheets *: found": 110,
     "sheets *: holds": 200,
@@ -44,7 +44,7 @@ AT_LEAST = {
     "sheets *: not asked": 50,
     "sheets *: as JSON": 105,
     "sheets *: damaged": 1152,
-    "examples/*: by the model": 19,
+    "examples/*: by the model": 49,
     "what is made": 38,
     "conditions of sheets *: check holds": 50,
     "conditions of sheets *: check fails": 60,
@@ -59,7 +59,7 @@ AT_LEAST = {
     "conditions of sheets *: E1": 1200,
     "conditions of sheets *: E2": 130,
     "conditions of sheets *: damaged, and no fault": 85,
-    "names of questions: *": 70,
+    "names of questions: *": 118,
     "conditions that are made": 31,
     "files *: N hold": 58,
     "files *: a bad answer": 95,

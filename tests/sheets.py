@@ -19,18 +19,18 @@ from typing import Any
 from model.reading import Fault
 from model.sheets import litmus_of, program_of
 from tests.examples import Example
-from tests.harness import TOP, Case, Checks, Px86, differs, unlike, wrong_end, wrong_run
+from tests.harness import TOP, Case, Checks, Px86, differs, read, unlike, wrong_end, wrong_run
 
 NEEDS_PROGRAM = True
 # How many random sheets there are, how many a case has, and how often each is damaged.
 SHEETS, OF_A_CASE, DAMAGES = 240, 12, 3
 AT_LEAST = {
-    "": 1370,
+    "": 1310,
     "sheets *: object": 240,
     "sheets *: damaged": 720,
     "sheets *: reports": 60,
-    "examples/*: its object": 180,
-    "examples/*: its check": 151,
+    "examples/*: its object": 150,
+    "examples/*: its check": 121,
     "what is made": 23,
 }
 
@@ -331,7 +331,7 @@ def example(px86: Px86, path: str) -> Checks:
 def cases() -> Iterator[Case]:
     """All cases."""
     texts = sorted(glob.glob("examples/**/*.litmus", recursive=True, root_dir=TOP))
-    yield from (Case(path, example, path) for path in texts if "/sheets/" not in path)
+    yield from (Case(path, example, path) for path in texts if re.search(r"(?m)^litmus 1\b", read(path)))
     for first in range(0, SHEETS, OF_A_CASE):
         yield Case(f"sheets {first} to {first + OF_A_CASE - 1}", random_sheets, first)
     yield Case("what is made", what_is_made)
