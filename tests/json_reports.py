@@ -502,6 +502,68 @@ def has_no_position(px86: Px86) -> Checks:
     yield "", unlike("line" in fault or fault["explanation"] is None, False)
 
 
+NO_WORD = "a word is out of place, missing or extra, or no instruction, register or line has this name."
+NO_NAME = "no line before this one gives a word of this name, and no register has it."
+NO_LABEL = "this program has no such label: main and recovery have labels of their own."
+# A text, and of each of its faults that is told the line, the column, the length, the fault and the hint; all counted here by hand.
+SEVERAL = {
+    "instructions, a jump, and an initial value": (
+        "litmus 1\nline x y\ninit q 5\ncpu\n  mvo [y], 2\n  mov [z], 3\n  l:\n  mov rax [y]\n  jmp nowhere\nend\n",
+        [(3, 6, 1, "X2 UnknownName", NO_NAME), (5, 3, 3, "X1 BadWord", "perhaps `mov` is meant."), (6, 8, 1, "X2 UnknownName", NO_NAME),
+         (8, 11, 1, "X1 BadWord", NO_WORD), (9, 7, 7, "X4 BadLabel", NO_LABEL)],
+    ),
+    "one alone": ("litmus 1\nline x\ncpu\nmvo [x], 1\nend\n", [(4, 1, 3, "X1 BadWord", "perhaps `mov` is meant.")]),
+    "none behind a line that names words": ("litmus 1\nline x 9y\ncpu\nmvo [x], 1\nend\n", [(2, 8, 2, "X8 L4 BadName", "a name begins with a lower case letter.")]),
+    "none behind the end of a processor, by a slip": (
+        "litmus 1\nline x\ncpu\nedn\ncpu\nmvo [x], 1\nend\n", [(4, 1, 3, "X1 BadWord", "perhaps `end` is meant.")]
+    ),
+    "an instruction of a sheet, and then a question": (
+        SHEET.replace("mov [x]", "mvo [x]").replace("= 0 ->", "== 0 ->"),
+        [(4, 1, 3, "X1 BadWord", "perhaps `mov` is meant."), (6, 29, 2, "X11 BadCond", "equality is `=`.")],
+    ),
+    "at most 20": ("litmus 1\nline x\ncpu\n" + "mvo [x], 1\n" * 30 + "end\n", [(4 + at, 1, 3, "X1 BadWord", "perhaps `mov` is meant.") for at in range(20)]),
+}
+
+
+def has_several(px86: Px86, text: str, wanted: list[tuple[int, int, int, str, str]]) -> Checks:
+    """What is told of the faults of a text, as JSON and as compilers do."""
+    px86.keep("several.litmus", text)
+    fault = json.loads(px86("run", "--no-steps", "--json", "--explain", "several.litmus", cwd=px86.folder).said)["fault"]
+    told = [fault, *fault.get("further", [])]
+    found = [(it["line"], it["column"], it["length"], it["hint"]) for it in told]
+    yield "as JSON", unlike(found, [(line, column, length, hint) for line, column, length, _, hint in wanted])
+    named = [f"{it['number']} {it['name']}" for it in told]
+    # The name of X8 is that of its fault of a line, without the word for this.
+    yield "their names", unlike(named, [" ".join(what.split()[:2]) for *_, what, _ in wanted])
+    yield "those behind it are there where there are some", unlike("further" in fault, 1 < len(wanted))
+    lines = "".join(f"several.litmus:{line}:{column}: error: {what}: {hint}\n" for line, column, _, what, hint in wanted)
+    for more in [], ["--explain"]:
+        done = px86("run", "--no-steps", "--format", "gcc", *more, "several.litmus", cwd=px86.folder)
+        yield f"as compilers do {more}", unlike((done.status, done.out, done.err), (2, "", lines))
+    plain = json.loads(px86("run", "--no-steps", "--json", "several.litmus", cwd=px86.folder).said)["fault"]
+    yield "not explained", unlike("further" in plain, False)
+
+
+def takes_format(px86: Px86) -> Checks:
+    """The form of compilers is taken by each command; of what is no fault of the text it changes nothing, and no other form is taken."""
+    px86.keep("good.litmus", "litmus 1\nline x\ncpu\nmov [x], 1\nend\n")
+    for name in sorted(commands_of(px86)):
+        for given in ["--format", "gcc"], ["--format=gcc"]:
+            words = [*with_needs(name).split(), *given]
+            done = px86(*words, "nothing.litmus", cwd=px86.folder)
+            yield f"{name} {given[0]}", unlike((done.status, done.out, done.err), (3, "", "px86: F1 ReadFailed\n"))
+        for wrong in ["--format", "cc"], ["--format", ""], ["--format", "gcc", "--format", "gcc"]:
+            done = px86(*with_needs(name).split(), *wrong, "good.litmus", given="", cwd=px86.folder)
+            yield f"{name} {wrong}", unlike((done.status, done.out, done.err), (2, "", "px86: usage\n"))
+    both = px86("run", "--json", "--format", "gcc", "good.litmus", given="", cwd=px86.folder)
+    yield "beside JSON", unlike((both.status, both.out, json.loads(both.said)["fault"]["number"]), (2, "", "usage"))
+    steps = "exec 0\ndrain 0 1\n"
+    plain, told = (px86("run", *more, "good.litmus", given=steps, cwd=px86.folder) for more in ([], ["--format", "gcc"]))
+    yield "a report", unlike((told.status, told.out, told.err), (plain.status, plain.out, plain.err))
+    plain, told = (px86("images", *more, "--explain", "good.litmus", given=steps, cwd=px86.folder) for more in ([], ["--format", "gcc"]))
+    yield "a refused step", unlike((told.status, told.out, told.err), (plain.status, plain.out, plain.err))
+
+
 def commands_have_it(px86: Px86) -> Checks:
     """Each command that takes `--json` is asked here, and each other one refuses it."""
     yield "the commands that take it", unlike(sorted(commands_of(px86, " --json ")), sorted(COMMANDS))
@@ -616,4 +678,6 @@ def cases() -> Iterator[Case]:
     yield from (Case(name, is_fault, *given) for name, given in FAULTS.items())
     yield from (Case(f"where a fault is: {name}", has_position, *given) for name, given in POSITIONS.items())
     yield Case("where the fault of a condition is", has_no_position)
+    yield from (Case(f"several faults: {name}", has_several, *given) for name, given in SEVERAL.items())
+    yield Case("the form of compilers", takes_format)
     yield Case("commands", commands_have_it)

@@ -1,6 +1,7 @@
 //! The lines after the line of a fault.
 use crate::conditions_asked::{push_condition_fault, push_set_fault};
 use crate::evidence::Evidence;
+use crate::further::Further;
 use crate::parts::{Pushed, again, push_sentence};
 use crate::position::{Position, position_of};
 use crate::program_faults::push_text_fault;
@@ -24,14 +25,18 @@ pub struct Explanation {
     pub text: String,
     /// Where the fault is, if it is one of the program's text.
     pub position: Option<Position>,
+    /// The faults of the text behind it, where they were looked for.
+    pub further: Vec<Further>,
 }
 
 impl Explanation {
     /// Lines of no place in the program's text.
     pub fn of_lines(text: String) -> Explanation {
+        let further = Vec::new(*text.allocator());
         Explanation {
             text,
             position: None,
+            further,
         }
     }
 
@@ -63,7 +68,11 @@ pub fn explain(
     let mut text = String::new(alloc);
     push_explanation(&mut text, evidence, fault)?;
     let position = position_of(alloc, evidence.program, fault)?;
-    Ok(Explanation { text, position })
+    Ok(Explanation {
+        text,
+        position,
+        further: Vec::new(alloc),
+    })
 }
 
 /// What `check` may do where there are too many states.

@@ -9,6 +9,7 @@
 mod conditions_asked;
 mod evidence;
 mod explanation;
+mod further;
 mod hints;
 mod item_faults;
 mod marks;
@@ -29,6 +30,7 @@ mod step_lines;
 pub use conditions_asked::explain_answer;
 pub use evidence::Evidence;
 pub use explanation::{Explanation, explain};
+pub use further::{Further, further_faults};
 pub use position::Position;
 pub use refused::explain_refusal;
 pub use sentences::sentence;

@@ -38,6 +38,9 @@ const PROGRAM_WORDS: [&str; 16] = [
     "cpu",
 ];
 
+/// Words that bound the lines of a processor, and of its recovery.
+const BLOCK_WORDS: [&str; 3] = ["cpu", "recover", "end"];
+
 /// Words that begin lines before the first processor.
 const DATA_WORDS: [&str; 3] = ["line", "init", "cpu"];
 
@@ -88,6 +91,11 @@ fn among(token: &[u8], words: &[&'static str]) -> Option<&'static [u8]> {
         }
     }
     None
+}
+
+/// Whether a token bounds the lines of a processor, or does but for a slip.
+pub(crate) fn bounds_block(token: &[u8]) -> bool {
+    BLOCK_WORDS.iter().any(|word| token == word.as_bytes()) || among(token, &BLOCK_WORDS).is_some()
 }
 
 /// The first name of a line of a program that a token is but for a slip, where the line names words.

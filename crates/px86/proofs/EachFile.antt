@@ -1,5 +1,5 @@
 -- Files that are answered one after another.
-use Rattle.std.proofs.Common.{◌≡◌, ◌∙◌, ◌<◌, ◌≤◌, ◌+◌, ℕ, Bool, true, false, Option, None, Some, Result, Ok, Err, List, [], ◌∷◌, ◌++◌, ap, arith, get_or, inl, inr, length, map, max, refl, subst, sym, take, true≢false}
+use Rattle.std.proofs.Common.{◌≡◌, ◌∙◌, ◌<◌, ◌+◌, ℕ, Bool, true, false, Option, None, Some, Result, Ok, Err, List, [], ◌∷◌, ◌++◌, ap, arith, get_or, inl, inr, length, map, max, subst, sym, take, true≢false}
 use Rattle.std.specs.Prelude.{Contains, option_copied}
 use Rattle.std.proofs.lemmas.List.{get_or-map, length-map, take_more}
 use Rattle.std.specs.Borrow.{Bor}
@@ -21,7 +21,7 @@ use Rattle.px86.specs.declared.request.Request.{Request}
 asked_by : (command : Option Command) (rows : List Row) (task : Task) (file other : Text) (input : Input) → Asks command rows task file input → Contains (files_in rows) other
     → Asks command rows task other input
 asked_by None rows task file other input asked there = absurd asked
-asked_by (Some command) rows task file other input asked there = (asked.0, there, asked.2)
+asked_by (Some command) rows task file other input asked there = (asked.0, there, asked.2, asked.3)
 
 asked_in : (entered : Option (Text × List Row)) (task : Task) (file other : Text) (input : Input) → AsksIn entered task file input → Contains (entered_files entered) other
     → AsksIn entered task other input

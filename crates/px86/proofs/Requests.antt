@@ -26,7 +26,7 @@ use Rattle.clap.specs.declared.parser.matches.Found.{Found}
 use Rattle.commands.specs.declared.jobs.Job.{Job}
 use Rattle.commands.specs.declared.jobs.Job.TheVariants as jobs
 use Rattle.px86.specs.Commands.{command_named}
-use Rattle.px86.specs.CommandLines.{asks_of_all, entered_files, files_in, form_of, is_given, is_yes, lacks_image, Asks, AsksIn, Finds, HasFormIn, HasMovesIn, HasProgressIn, IsImagesJob, IsNumber, IsNumberIfAny, IsNumberOr}
+use Rattle.px86.specs.CommandLines.{asks_of_all, entered_files, files_in, form_of, has_value, is_given, is_yes, lacks_image, Asks, AsksIn, Finds, HasFormIn, HasMovesIn, HasProgressIn, IsImagesJob, IsNumber, IsNumberIfAny, IsNumberOr}
 use Rattle.px86.specs.declared.command.Command.{Command}
 use Rattle.px86.specs.declared.request.Request.{Request}
 
@@ -210,7 +210,7 @@ progress_is m name rows request n r is = rw (entered_is m name rows n r) is
 
 -- how the report is asked for, of the rows
 pub form_is : (m : ArgMatches) (name : Text) (rows : List Row) (request : Option Request) → Some name ≡ subcommand_name_of m
-    → Some rows ≡ option_map (λ p. p.1) (subcommand_rows_of m) → IfSome request (λ r. r.form ≡ form_of (is_given (codes "json") rows))
+    → Some rows ≡ option_map (λ p. p.1) (subcommand_rows_of m) → IfSome request (λ r. r.form ≡ form_of (is_given (codes "json") rows) (has_value (codes "format") rows))
     → IfSome request (λ r. HasFormIn (subcommand_rows_of m) r.form)
 form_is m name rows request n r is = rw (entered_is m name rows n r) is
 

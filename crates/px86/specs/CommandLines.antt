@@ -39,7 +39,7 @@ use Rattle.px86.specs.declared.command.Command.TheVariants.{Asm, Dis, Run, Trace
 use Rattle.px86.specs.declared.command.Reads.{Reads}
 use Rattle.px86.specs.declared.command.Reads.TheVariants as reads
 use Rattle.px86.specs.declared.request.Form.{Form}
-use Rattle.px86.specs.declared.request.Form.TheVariants.{Lines, Json}
+use Rattle.px86.specs.declared.request.Form.TheVariants.{Lines, Json, Gcc}
 use Rattle.px86.specs.declared.request.Input.{Input}
 use Rattle.px86.specs.declared.request.Input.TheVariants as inputs
 use Rattle.px86.specs.declared.request.Request.{Request}
@@ -397,12 +397,21 @@ IsInputOf reads.Asked rows input = IsCheckInput (has_question rows) (first_of (c
 IsInputOf reads.Script rows input =
     IsScript (is_given (codes "interactive") rows) (first_of (codes "steps") rows) (is_given (codes "no-steps") rows) input
 
+-- whether a text names no form of faults, or one that may not stand beside JSON
+abbrev pub is_no_format : Option Text → Bool → Bool
+is_no_format None json = false
+is_no_format (Some text) json = not (bytes_eq text (codes "gcc")) || json
+
+-- whether a parse found a form of faults that is none: `--format` with another text than `gcc`, or beside `--json`
+abbrev pub lacks_format : List Row → Bool
+lacks_format rows = is_no_format (first_of (codes "format") rows) (is_given (codes "json") rows)
+
 -- A parse of a command, if it is one, found that it asks for this task on this file, which is one of those that it found, with this
--- input.
+-- input, and for a form of faults that there is.
 abbrev pub Asks : Option Command → List Row → Task → Text → Input → Type 0
 Asks None rows task file input = ⊥
 Asks (Some command) rows task file input =
-    IsTaskOf command rows task × Contains (files_in rows) file × IsInputOf (row_of command).reads rows input
+    IsTaskOf command rows task × Contains (files_in rows) file × IsInputOf (row_of command).reads rows input × (lacks_format rows ≡ false)
 
 -- A parse entered the command of this task, with this text among those for FILE, and with this input.
 abbrev pub AsksIn : Option (Text × List Row) → Task → Text → Input → Type 0
@@ -441,14 +450,14 @@ HasProgressIn (Some entered) progress = progress ≡ is_given (codes "progress")
 abbrev pub HasProgress : List Text → Bool → Type 0
 HasProgress words progress = HasProgressIn (subcommand_of command_line words) progress
 
--- how a report is written, where `--json` is given or is not
-abbrev pub form_of : Bool → Form
-form_of json = if json then Json else Lines
+-- how a report is written, and a fault, where `--json` and `--format` are given or are not
+abbrev pub form_of : Bool → Bool → Form
+form_of json format = if json then Json else if format then Gcc else Lines
 
 -- How a command that a parse entered writes its report.
 abbrev pub HasFormIn : Option (Text × List Row) → Form → Type 0
 HasFormIn None form = ⊥
-HasFormIn (Some entered) form = form ≡ form_of (is_given (codes "json") entered.1)
+HasFormIn (Some entered) form = form ≡ form_of (is_given (codes "json") entered.1) (has_value (codes "format") entered.1)
 
 -- How the words ask for the report.
 abbrev pub HasForm : List Text → Form → Type 0

@@ -74,7 +74,7 @@ pub record Row : Type 0 where
 abbrev row : Text → Reads → List Rule → Row
 row name from options = record { name = name; reads = from; options = options }
 
--- the row of each command; the options are those that it has beside FILE, `--explain` and those of its steps
+-- the row of each command; the options are those that it has beside FILE, those of all commands and those of its steps
 abbrev pub row_of : Command → Row
 row_of Asm = row (codes "asm") reads.Nothing []
 row_of Dis = row (codes "dis") reads.Nothing []
@@ -128,10 +128,14 @@ told_row row = record { name = row.name.now; reads = row.reads; options = map ru
 abbrev pub with_rules : App → List Rule → App
 with_rules app rules = fold with_rule app rules
 
--- a command of this row: it takes FILE, `--explain`, what its steps come from, and its options
+-- the options of all commands
+abbrev pub common_options : List Rule
+common_options = flag (codes "explain") ∷ value (codes "format") ∷ []
+
+-- a command of this row: it takes FILE, `--explain`, `--format`, what its steps come from, and its options
 abbrev pub app_of_row : Row → App
 app_of_row row =
-    with_rules (with_rules (with_rule (with_rule (new_app row.name) (file_argument row.reads)) (flag (codes "explain"))) (input_options row.reads)) row.options
+    with_rules (with_rules (with_rules (with_rule (new_app row.name) (file_argument row.reads)) common_options) (input_options row.reads)) row.options
 
 -- it has a version and no command `help`, and it requires a command
 abbrev pub with_settings : App → App

@@ -37,7 +37,7 @@ use Rattle.px86.specs.CommandLines.{are_several, AsksFor, HasFiles, HasForm, Has
 use Rattle.px86.specs.declared.request.Declined.{Declined}
 use Rattle.px86.specs.declared.request.Declined.TheVariants.{Usage, Shown, NoMemory}
 use Rattle.px86.specs.declared.request.Form.{Form}
-use Rattle.px86.specs.declared.request.Form.TheVariants.{Lines, Json}
+use Rattle.px86.specs.declared.request.Form.TheVariants.{Lines, Json, Gcc}
 use Rattle.px86.specs.declared.request.Input.{Input}
 use Rattle.px86.specs.declared.request.Input.TheVariants as inputs
 use Rattle.px86.specs.declared.request.Request.{Request}
@@ -73,6 +73,7 @@ json_command moves named (Mend options) = mend_command mend_data.json_reports mo
 abbrev pub task_command : Form → Bool → Option Text → Task → Command
 task_command Lines moves named task = lines_command moves named task
 task_command Json moves named task = json_command moves named task
+task_command Gcc moves named task = lines_command moves named task
 
 -- whether steps, or a script, come from the standard input
 abbrev pub is_standard : Input → Bool

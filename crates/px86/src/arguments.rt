@@ -5,7 +5,7 @@ ghost use Rattle.clap.specs.Words.{app_of, new_app, with_rule, with_subcommand, 
 ghost use Rattle.px86.specs.Building.{IsArgument, IsCommand, IsProgram};
 ghost use Rattle.px86.specs.Commands.{app_of_row, command_line, file_argument, one_file, program_alone, rule_of, some_files, told_row, with_rules, with_settings};
 
-use crate::command::{COMMANDS, CommandOption, CommandRow, EXPLAIN, Reads, Takes};
+use crate::command::{COMMANDS, COMMON, CommandOption, CommandRow, EXPLAIN, Reads, Takes};
 use clap::{Arg, ArgAction, Command};
 use std::alloc::{AllocError, Global};
 
@@ -95,7 +95,7 @@ fn command_of<'a>(alloc: Global, row: &'static CommandRow) -> Made<'a>
         .about(row.about)
         .after_help(row.more);
     let command = with_argument(Ok(command), file_argument(alloc, row.reads));
-    let command = with_argument(command, argument(alloc, EXPLAIN));
+    let command = with_options(alloc, command, COMMON);
     let command = with_options(alloc, command, row.reads.options());
     with_options(alloc, command, row.options)
 }

@@ -196,11 +196,21 @@ macro_rules! needed {
     };
 }
 
-/// Of all commands.
+/// Of all commands, and of none.
 pub(crate) const EXPLAIN: CommandOption = flag!(
     "explain",
     "Say more of a fault, on standard error"
 );
+
+/// Of all commands.
+pub(crate) const COMMON: &[CommandOption] = &[
+    EXPLAIN,
+    value!(
+        "format",
+        "FORM",
+        "Say where a fault of the text is as compilers do, in a line each: FORM is gcc"
+    ),
+];
 
 /// Of the commands whose report may be JSON.
 const JSON: CommandOption = flag!("json", "Print the report as one JSON object");

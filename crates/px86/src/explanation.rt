@@ -5,8 +5,9 @@ ghost use Rattle.px86.specs.Starts.{reads_input};
 use crate::outside::Outside;
 use crate::request::{Form, Input, Request};
 use commands::{Device, Fault, Refused, Status};
-use explanations::{Evidence, Explanation, Position, sentence};
+use explanations::{Evidence, Explanation, Further, Position, sentence};
 use json_texts::{Fields, put_number, put_text};
+use litmus_text::{LineFault, TextFault};
 use serde_json::{Value, put};
 use std::alloc::{AllocError, Global};
 
@@ -44,13 +45,36 @@ fn lines_of(told: Option<&Explanation>) -> &str {
 fn put_position(
     fault: &mut Fields,
     alloc: Global,
-    told: &Explanation,
     at: Position,
+    hint: &str,
 ) -> Result<(), AllocError> {
     put_number(fault, alloc, "line", at.line as u64)?;
     put_number(fault, alloc, "column", at.column as u64)?;
     put_number(fault, alloc, "length", at.length as u64)?;
-    put_text(fault, alloc, "hint", told.hint())
+    put_text(fault, alloc, "hint", hint)
+}
+
+/// The object of a fault behind the first of a text.
+fn further_object(alloc: Global, one: &Further) -> Result<Value, AllocError> {
+    let line = format!(in alloc; "{}", one.kind)?;
+    let (number, name) = line.as_str().split_once(' ').unwrap_or((line.as_str(), ""));
+    let mut fields = Fields::new(alloc);
+    put_text(&mut fields, alloc, "number", number)?;
+    put_text(&mut fields, alloc, "name", name)?;
+    put_position(&mut fields, alloc, one.position, one.hint.as_str())?;
+    Ok(Value::from(fields))
+}
+
+/// Puts into an object the faults of a text behind its first, where there are some.
+fn put_further(fault: &mut Fields, alloc: Global, further: &[Further]) -> Result<(), AllocError> {
+    if further.is_empty() {
+        return Ok(());
+    }
+    let mut objects = Vec::new(alloc);
+    for one in further {
+        objects.push(further_object(alloc, one)?)?;
+    }
+    put(fault, alloc, "further", Value::from(objects))
 }
 
 /// The fields of what explains a fault. It is no text where none is asked for.
@@ -60,8 +84,9 @@ fn explained_fields(alloc: Global, told: Option<&Explanation>) -> Result<Fields,
     put(&mut fault, alloc, "explanation", lines)?;
     if let Some(told) = told {
         if let Some(at) = told.position {
-            put_position(&mut fault, alloc, told, at)?;
+            put_position(&mut fault, alloc, at, told.hint())?;
         }
+        put_further(&mut fault, alloc, &told.further)?;
     }
     Ok(fault)
 }
@@ -162,23 +187,49 @@ pub(crate) fn report_answer<R: Eprint>(
     let explanation = lines_of(told);
     match (form, answer) {
         (Form::Json, _) => print_answer(rt, alloc, named, answer, told),
-        (Form::Lines, Err(fault)) => {
+        (Form::Lines | Form::Gcc, Err(fault)) => {
             let _ = match named {
                 Some(file) => eprint!(rt; "px86: {file}: {fault}\n{explanation}"),
                 None => eprint!(rt; "px86: {fault}\n{explanation}"),
             };
         }
-        (Form::Lines, Ok(_)) => {
+        (Form::Lines | Form::Gcc, Ok(_)) => {
             let _ = eprint!(rt; "{explanation}");
         }
     }
+}
+
+/// Writes on standard error the line of a fault of a file, with its place, as compilers do.
+fn print_place<R: Eprint>(rt: &R, file: &str, kind: LineFault, at: Position, hint: &str) {
+    let _ = eprintln!(rt; "{file}:{}:{}: error: {kind}: {hint}", at.line, at.column);
+}
+
+/// Writes on standard error a line for each fault of the text of a file, with its place, as compilers do, where the fault is one of
+/// the text. Whether it is.
+pub(crate) fn report_places<R: Eprint>(
+    rt: &R,
+    file: &str,
+    answer: Result<Status, Fault>,
+    told: &Explanation,
+) -> bool {
+    let Err(Fault::Refused(Refused::Text(TextFault::At(kind, _)))) = answer else {
+        return false;
+    };
+    let Some(at) = told.position else {
+        return false;
+    };
+    print_place(rt, file, kind, at, told.hint());
+    for one in &told.further {
+        print_place(rt, file, one.kind, one.position, one.hint.as_str());
+    }
+    true
 }
 
 /// Writes on standard error that the words are not understood.
 pub(crate) fn report_usage<R: Eprint>(rt: &R, alloc: Global, form: Form) {
     let usage = Fault::Refused(Refused::Usage);
     match form {
-        Form::Lines => {
+        Form::Lines | Form::Gcc => {
             let _ = eprintln!(rt; "px86: {usage}");
         }
         Form::Json => print_object(rt, fault_object(alloc, None, "usage", MISREAD, None), usage),
@@ -264,6 +315,20 @@ pub(crate) struct KeptBytes<'p, 's> {
     pub(crate) steps: Option<&'s [u8]>,
 }
 
+/// What is said of a fault; in other forms than lines, also of those of the text behind it.
+fn explain_fault(
+    alloc: Global,
+    form: Form,
+    evidence: &Evidence<'_>,
+    fault: Fault,
+) -> Result<Explanation, AllocError> {
+    let mut told = explanations::explain(alloc, evidence, fault)?;
+    if form != Form::Lines {
+        told.further = explanations::further_faults(alloc, evidence, fault)?;
+    }
+    Ok(told)
+}
+
 /// What is said of what a command answered, after it read these bytes. Where they were not kept, a fault has its sentence
 /// alone.
 pub(crate) fn explain<O: Outside>(
@@ -289,6 +354,6 @@ pub(crate) fn explain<O: Outside>(
             alloc, &evidence,
         )?)),
         Ok(_) => Ok(Explanation::of_lines(explanations::explain_answer(alloc, &evidence)?)),
-        Err(fault) => explanations::explain(alloc, &evidence, fault),
+        Err(fault) => explain_fault(alloc, request.form, &evidence, fault),
     }
 }

@@ -5,7 +5,7 @@ ghost use Rattle.commands.specs.Serving.{used};
 ghost use Rattle.px86.specs.CommandLines.{AsksFor, AsksForThreads, HasFiles, HasForm, HasMoves};
 ghost use Rattle.px86.specs.Starts.{exit_status, is_unwritten, AreDone};
 
-use crate::explanation::report_answer;
+use crate::explanation::{report_answer, report_places};
 use crate::outside::Outside;
 use crate::request::{Form, Request, Requests};
 use crate::task::{Ended, do_task};
@@ -34,11 +34,31 @@ fn report_ended<R: Eprint>(rt: &R, alloc: Global, request: &Request<'_>, ended: 
         (Ok(told), answer) => report_answer(rt, alloc, form, request.named, answer, Some(told)),
         (Err(_), Err(fault)) => {
             report_answer(rt, alloc, form, request.named, Err(fault), None);
-            if let Form::Lines = form {
+            if form != Form::Json {
                 let _ = eprintln!(rt; "{}", sentence(fault));
             }
         }
         (Err(_), Ok(_)) => {}
+    }
+}
+
+/// The same in the form of compilers: a fault of the text has its place. Of all else more is said where that is asked for.
+fn report_places_or<R: Eprint>(
+    rt: &R,
+    alloc: Global,
+    request: &Request<'_>,
+    ended: &Ended,
+    explains: bool,
+) {
+    if let Ok(told) = &ended.explanation {
+        if report_places(rt, request.file, ended.answer, told) {
+            return;
+        }
+    }
+    if explains {
+        report_ended(rt, alloc, request, ended);
+    } else {
+        report_answer(rt, alloc, request.form, request.named, ended.answer, None);
     }
 }
 
@@ -81,11 +101,17 @@ pub(crate) fn answer_all<R: Eprint + Threads + Wait + Sync, O: Outside, W: Sink>
 {
     let files = requests.files.as_slice();
     let several = 1 < files.len();
+    let places = requests.first.form == Form::Gcc;
+    let keeps = explains || places;
     let mut status = 0;
     for file in files {
         let request = requests.first.of_file(file, several);
-        let ended = do_task(rt, outside, alloc, &request, explains, out);
-        report_ended(rt, alloc, &request, &ended);
+        let ended = do_task(rt, outside, alloc, &request, keeps, out);
+        if places {
+            report_places_or(rt, alloc, &request, &ended, explains);
+        } else {
+            report_ended(rt, alloc, &request, &ended);
+        }
         status = greater(status, status_of(ended.answer));
         if is_unwritten(ended.answer) {
             return status;

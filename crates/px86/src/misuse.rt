@@ -4,8 +4,8 @@ use crate::arguments::command_line;
 use crate::command::{Bound, Command, CommandOption};
 use crate::options::{
     asks_ends, count, demand_of, has_condition, has_question, has_several, has_value, is_given,
-    lacks_condition, lacks_image, lacks_recovery, lacks_states, needs_condition, number, only_of,
-    small_number, talks_in_json, value,
+    lacks_condition, lacks_format, lacks_image, lacks_recovery, lacks_states, needs_condition,
+    number, only_of, small_number, talks_in_json, value,
 };
 use clap::error::ErrorKind;
 use clap::{ArgMatches, Error};
@@ -229,6 +229,9 @@ fn talk_clash(matches: &ArgMatches<'_>) -> Option<&'static str> {
 
 /// What is said of options that may not be given together, or of which one is missing.
 fn clash(command: Command, matches: &ArgMatches<'_>) -> Option<&'static str> {
+    if lacks_format(matches) {
+        return Some("--format takes gcc, the form of compilers, and may not be given with --json");
+    }
     if has_value(matches, "steps") && is_given(matches, "no-steps") {
         return Some("--steps and --no-steps may not be given together");
     }

@@ -3,7 +3,7 @@ ghost use Rattle.std.specs.Prelude.{◌≡◌, ◌^◌, ℕ, true, Contains, IfO
 ghost use Rattle.std.specs.List.{starts_with};
 ghost use Rattle.std.specs.Prelude.{codes, nat_eq};
 ghost use Rattle.clap.specs.Words.{first_of, found_of, rows_of};
-ghost use Rattle.px86.specs.CommandLines.{asks_beyond, asks_beyond_lazy, asks_ends, asks_of_all, asks_persisted, default_length, default_states, files_in, has_condition, has_question, has_several, has_value, is_given, lacks_condition, lacks_image, lacks_recovery, lacks_states, millions_of, needs_condition, talks_in_json, AreCheckOptions, AreHuntOptions, AreNextOptions, AreOptions, AreOutcomesOptions, AreQuestionOptions, AreSchedules, AreTraceOptions, Finds, IsCheckTask, IsCountOr, IsDemand, IsImagesJob, IsNumberIfAny, IsNumberOr, IsPlan, IsSchedule, IsSiteIfAny, IsTallyJob, IsThreadCount, IsThreadCountOr, IsWorkerCount, Spells, SpellsCount};
+ghost use Rattle.px86.specs.CommandLines.{asks_beyond, asks_beyond_lazy, asks_ends, asks_of_all, asks_persisted, default_length, default_states, files_in, has_condition, has_question, has_several, has_value, is_given, lacks_condition, lacks_format, lacks_image, lacks_recovery, lacks_states, millions_of, needs_condition, talks_in_json, AreCheckOptions, AreHuntOptions, AreNextOptions, AreOptions, AreOutcomesOptions, AreQuestionOptions, AreSchedules, AreTraceOptions, Finds, IsCheckTask, IsCountOr, IsDemand, IsImagesJob, IsNumberIfAny, IsNumberOr, IsPlan, IsSchedule, IsSiteIfAny, IsTallyJob, IsThreadCount, IsThreadCountOr, IsWorkerCount, Spells, SpellsCount};
 
 use crate::command::{
     CRASH_AFTER, CommandOption, FIRST, LENGTH, MENDERS, NUMBER, RUNS, SEED, STATES, THREADS,
@@ -286,6 +286,16 @@ fn asks_of_all(matches: &ArgMatches<'_>) -> bool
     let all = has_value(matches, "all");
     let some = has_value(matches, "some");
     count || names || all || some
+}
+
+/// Whether `--format` names no form of faults, or stands beside `--json`.
+pub(crate) fn lacks_format(matches: &ArgMatches<'_>) -> bool
+    ensures { result ≡ lacks_format (rows_of (found_of matches.now)) }
+{
+    match value(matches, "format") {
+        None => false,
+        Some(format) => format != "gcc" || is_given(matches, "json"),
+    }
 }
 
 /// Whether an image is to be explained, and there is no condition of images.

@@ -5,7 +5,7 @@ ghost use Rattle.std.specs.String.{string_bytes};
 ghost use Rattle.clap.specs.Simple.{subcommand_rows_of};
 ghost use Rattle.clap.specs.Words.{fault_of, first_of, found_of, rows_of, HasMatchesOf};
 ghost use Rattle.px86.specs.Commands.{command_line};
-ghost use Rattle.px86.specs.CommandLines.{declined_of, has_question, is_explain, form_of, entered_files, is_given, Asks, AsksFor, AsksIn, Finds, HasFiles, HasForm, HasFormIn, HasMoves, HasMovesIn, HasProgress, HasProgressIn, IsCheckInput, IsDebugTask, IsDeclinedFor, IsInput, IsInputOf, IsRefusedFor, IsScript, IsTaskOf};
+ghost use Rattle.px86.specs.CommandLines.{declined_of, has_question, has_value, is_explain, form_of, entered_files, is_given, Asks, AsksFor, AsksIn, Finds, HasFiles, HasForm, HasFormIn, HasMoves, HasMovesIn, HasProgress, HasProgressIn, IsCheckInput, IsDebugTask, IsDeclinedFor, IsInput, IsInputOf, IsRefusedFor, IsScript, IsTaskOf};
 ghost use Rattle.px86.specs.Starts.{is_console, is_standard, name_if};
 ghost use Rattle.px86.specs.declared.request.Declined.TheVariants.{NoMemory};
 
@@ -13,9 +13,9 @@ use crate::arguments::command_line;
 use crate::asked_runs::{fences_options, mend_options};
 use crate::command::{Command, Reads};
 use crate::options::{
-    check_task, files_of, first_file, has_question, hunt_options, images_job, is_given, live_count,
-    next_options, outcomes_options, replay_options, talks_in_json, tally_job, trace_options, value,
-    worker_count,
+    check_task, files_of, first_file, has_question, has_value, hunt_options, images_job, is_given,
+    lacks_format, live_count, next_options, outcomes_options, replay_options, talks_in_json,
+    tally_job, trace_options, value, worker_count,
 };
 use clap::error::ErrorKind;
 use clap::{ArgMatches, Error};
@@ -93,13 +93,15 @@ impl Input<'_> {
     }
 }
 
-/// How a report is written.
+/// How a report is written, and a fault.
 #[derive(Clone, Copy, Debug, PartialEq, Eq)]
 pub enum Form {
     /// In lines.
     Lines,
     /// `--json`: as a JSON object.
     Json,
+    /// `--format gcc`: in lines, and a fault of the text with its place, as compilers write it.
+    Gcc,
 }
 
 /// What the words of the command line ask for: a command, its file, where its steps come from, and how its report is written.
@@ -117,7 +119,7 @@ pub struct Request<'a> {
     pub ways: Ways,
     /// `--progress`: lines of progress are written, on standard error.
     pub progress: bool,
-    /// `--json`: how the report is written.
+    /// `--json`, `--format`: how the report is written, and a fault.
     pub form: Form,
 }
 
@@ -152,11 +154,17 @@ impl<'a> Request<'a> {
     }
 }
 
-/// How a report is written, where `--json` is given or is not.
-fn form_of(json: bool) -> Form
-    ensures { result ≡ form_of json }
+/// How a report is written, and a fault, where `--json` and `--format` are given or are not.
+fn form_of(json: bool, format: bool) -> Form
+    ensures { result ≡ form_of json format }
 {
-    if json { Form::Json } else { Form::Lines }
+    if json {
+        Form::Json
+    } else if format {
+        Form::Gcc
+    } else {
+        Form::Lines
+    }
 }
 
 /// How a mend is looked for: by one worker, where it is not told by how many.
@@ -268,8 +276,12 @@ fn request_for<'a>(command: Command, matches: &ArgMatches<'a>) -> Option<Request
     ensures progress { IfSome result (λ request. request.progress
         ≡ is_given (codes "progress") (rows_of (found_of matches.now))) }
     ensures form { IfSome result (λ request. request.form
-        ≡ form_of (is_given (codes "json") (rows_of (found_of matches.now)))) }
+        ≡ form_of (is_given (codes "json") (rows_of (found_of matches.now)))
+        (has_value (codes "format") (rows_of (found_of matches.now)))) }
 {
+    if lacks_format(matches) {
+        return None;
+    }
     let task = task_of(command, matches)?;
     let file = first_file(matches)?;
     let input = input_of(command.row().reads, matches)?;
@@ -280,7 +292,7 @@ fn request_for<'a>(command: Command, matches: &ArgMatches<'a>) -> Option<Request
         input,
         ways: ways_of(matches),
         progress: is_given(matches, "progress"),
-        form: form_of(is_given(matches, "json")),
+        form: form_of(is_given(matches, "json"), has_value(matches, "format")),
     })
 }
 
@@ -352,7 +364,7 @@ pub fn has_explain(words: &[String]) -> bool
 /// How faults are written: as JSON objects, where one of the words is `--json`. It is asked of words that are not understood
 /// too.
 pub fn form_in(words: &[String]) -> Form {
-    form_of(words.iter().any(|word| word.as_str() == "--json"))
+    form_of(words.iter().any(|word| word.as_str() == "--json"), false)
 }
 
 /// What the words of the command line ask for. They begin with the program's name.

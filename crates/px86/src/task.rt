@@ -207,7 +207,7 @@ fn do_in_form<
         (used S.device steps.old steps.new) (used W.device out.old out.new) result }
 {
     match form {
-        Form::Lines => do_on_devices(resources, ways, named, task, program, steps, out),
+        Form::Lines | Form::Gcc => do_on_devices(resources, ways, named, task, program, steps, out),
         Form::Json => do_as_json(resources, ways, named, task, program, steps, out),
     }
 }

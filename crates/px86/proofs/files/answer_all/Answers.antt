@@ -1,7 +1,6 @@
-use Rattle.std.proofs.Common.{◌≡◌, ◌∙◌, ◌<◌, ◌≤◌, ◌+◌, List, [], ap, append-nil, arith, drop, false, inl, inr, length, map, nat_lt, refl, sym, take, take-append-drop}
+use Rattle.std.proofs.Common.{◌≡◌, ◌∙◌, ◌+◌, List, [], ap, append-nil, arith, drop, false, inl, inr, nat_lt, refl, sym, take, take-append-drop}
 use Rattle.std.specs.Borrow.{Bor}
 use Rattle.std.proofs.lemmas.List.{length-map, take_all}
-use Rattle.px86.specs.CommandLines.{are_several}
 use Rattle.px86.specs.Starts.{is_unwritten, AreAnswered}
 use Rattle.px86.proofs.EachFile.{next_answered, room_is_left, texts}
 use Rattle.px86.proofs.files.answer_all.Goals as goal

@@ -1,5 +1,4 @@
-use Rattle.std.proofs.Common.{◌≡◌, ◌∙◌, false, Some, ap, rules, sym}
-use Rattle.std.specs.Prelude.{option_copied}
+use Rattle.std.proofs.Common.{◌∙◌, rules}
 use Rattle.px86.proofs.CheckSteps.{named}
 use Rattle.px86.proofs.request.check_input.Goals as goal
 
