@@ -27,7 +27,7 @@ from tests import json_texts as texts
 from tests.harness import TOP, Case, Checks, Done, Px86, commands_of, read, unlike, with_needs, wrong_end
 from tests.texts import FILES, rows_of_rows
 
-AT_LEAST = {"": 7426}
+AT_LEAST = {"": 7600}
 NEEDS_PROGRAM = True
 # The commands whose report may be JSON: each has to take `--json`, and each other one refuses it.
 COMMANDS = "run trace next law debug images replay check outcomes tally hunt fences mend live".split()
